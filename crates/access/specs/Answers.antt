@@ -1,0 +1,30 @@
+-- What potential access answers: "The relation is answered whole, for all 64 numbers"; for a table that is not sound the
+-- number 1 and no rights.
+use mathlib.Core.Bool.{Bool, true, false}
+use Prim.Native.Nat.{ℕ, zero, suc, _/_, _%_}
+use lib.ListN.{replicate}
+use Rattle.table.specs.declared.Table.{Table}
+use Rattle.table.specs.Soundness.{sound}
+use Rattle.table.specs.Lists.{tabulate}
+use Rattle.access.specs.declared.AccessReply.{AccessReply}
+use Rattle.access.specs.declared.AccessReply.the-variants.{Done, TableUnsound}
+use Rattle.access.specs.declared.Access.{Access}
+use Rattle.access.specs.Relation.{Right, rd, wr, wk, tx, tableHolding}
+use Rattle.access.specs.Closure.{rowOf}
+
+abbrev pub accessNumber : AccessReply → ℕ
+accessNumber Done = 0
+accessNumber TableUnsound = 1
+
+-- the right whose rows stand at 64 times its place
+abbrev pub rightAt : ℕ → Right
+rightAt zero = rd
+rightAt (suc zero) = wr
+rightAt (suc (suc zero)) = wk
+rightAt (suc (suc (suc n))) = tx
+
+unfoldable pub accessOf : Table → Access
+accessOf t = elim (sound t) [
+  | true ↦ record { reply = Done; rows = tabulate 256 (λ k. rowOf (tableHolding t) (rightAt (k / 64)) (k % 64)) }
+  | false ↦ record { reply = TableUnsound; rows = replicate 256 0 }
+]

@@ -1,0 +1,4 @@
+pub mod StandIn
+pub mod Refusals
+pub mod Tests
+pub mod Agreement

@@ -1,0 +1,5 @@
+pub mod Tests
+pub mod Requests
+pub mod Access
+pub mod Images
+pub mod Twelve

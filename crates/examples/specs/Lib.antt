@@ -1,0 +1,2 @@
+pub mod TableK
+pub mod Statement

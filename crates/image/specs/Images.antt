@@ -1,0 +1,55 @@
+-- What reading and writing return and leave. "Reading checks 14, 15, then 1; the failing read returns the unborn table.
+-- Writing checks 1, then 16"; it "fills the first 1,923 bytes and touches no byte after them".
+use mathlib.Core.Bool.{Bool, true, false, not, _||_}
+use mathlib.Core.List.{List, [], _∷_, _++_}
+use Prim.Native.Nat.{ℕ, _+_, _*_}
+use lib.Dec.{ltb, eqb}
+use lib.ListN.{length, drop, take}
+use Rattle.table.specs.declared.Table.{Table}
+use Rattle.table.specs.Cells.{unbornTable}
+use Rattle.table.specs.Soundness.{sound}
+use Rattle.image.specs.declared.ReadReply.{ReadReply}
+use Rattle.image.specs.declared.ReadReply.the-variants as R
+use Rattle.image.specs.declared.WriteReply.{WriteReply}
+use Rattle.image.specs.declared.WriteReply.the-variants as W
+use Rattle.image.specs.declared.Loaded.{Loaded}
+use Rattle.image.specs.Numbers.{numberOf}
+use Rattle.image.specs.Layout.{imageLength, version, byteAt, imageOf, tableFrom}
+
+abbrev pub readNumber : ReadReply → ℕ
+readNumber R.Done = 0
+readNumber R.TableUnsound = 1
+readNumber R.LengthWrong = 14
+readNumber R.VersionWrong = 15
+
+abbrev pub writeNumber : WriteReply → ℕ
+writeNumber W.Done = 0
+writeNumber W.TableUnsound = 1
+writeNumber W.BufferShort = 16
+
+-- 14: "slice not 1,923 bytes, or its length field says otherwise"; then 15: "version byte not 1"; then 1
+unfoldable pub readRefusal : List ℕ → ReadReply
+readRefusal bytes =
+    elim (not (eqb (length bytes) imageLength) || not (eqb (numberOf (take 2 bytes)) imageLength)) [
+      | true ↦ R.LengthWrong
+      | false ↦ elim (eqb (byteAt bytes 2) version) [
+        | false ↦ R.VersionWrong
+        | true ↦ elim (sound (tableFrom bytes)) [ false ↦ R.TableUnsound | true ↦ R.Done ]
+      ]
+    ]
+
+unfoldable pub readOf : List ℕ → Loaded
+readOf bytes = record {
+  reply = readRefusal bytes;
+  table = elim (eqb (readNumber (readRefusal bytes)) 0) [ true ↦ tableFrom bytes | false ↦ unbornTable ];
+}
+
+-- 1, then 16: "buffer below 1,923 bytes"
+unfoldable pub writeRefusal : Table → List ℕ → WriteReply
+writeRefusal t buffer =
+    elim (sound t) [ false ↦ W.TableUnsound | true ↦ elim (ltb (length buffer) imageLength) [ true ↦ W.BufferShort | false ↦ W.Done ] ]
+
+-- what the buffer holds afterwards
+unfoldable pub writtenOf : Table → List ℕ → List ℕ
+writtenOf t buffer =
+    elim (eqb (writeNumber (writeRefusal t buffer)) 0) [ true ↦ imageOf t ++ drop imageLength buffer | false ↦ buffer ]

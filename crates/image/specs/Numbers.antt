@@ -1,0 +1,16 @@
+-- "Big-endian": a number as bytes, the most significant first.
+use mathlib.Core.List.{List, [], _∷_}
+use Prim.Native.Nat.{ℕ, zero, suc, _+_, _*_, _/_, _%_, _^_}
+
+-- the number's lowest `size` bytes
+unfoldable pub bytesOf : ℕ → ℕ → List ℕ
+bytesOf zero n = []
+bytesOf (suc size) n = n / 256 ^ size % 256 ∷ bytesOf size n
+
+-- the number that the bytes are, after those that were read before
+unfoldable pub numberFrom : ℕ → List ℕ → ℕ
+numberFrom before [] = before
+numberFrom before (b ∷ bs) = numberFrom (before * 256 + b) bs
+
+abbrev pub numberOf : List ℕ → ℕ
+numberOf bs = numberFrom 0 bs

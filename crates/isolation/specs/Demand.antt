@@ -1,0 +1,45 @@
+-- Document 01, demand 3 and "Two runs", as one statement about two whole lists of requests: two runs from tables that agree
+-- outside an accepted set of members; "whatever everybody else asks, the clean objects, their records and their replies are the
+-- same".
+use mathlib.Core.Path.{_≡_}
+use mathlib.Core.Bool.{true}
+use mathlib.Core.List.{List}
+use Prim.Native.Nat.{ℕ, _<_}
+use Rattle.table.specs.declared.Capability.{Capability}
+use Rattle.table.specs.declared.Table.{Table}
+use Rattle.table.specs.Cells.{IsTable, recordAt, slotAt}
+use Rattle.confinement.specs.StandIn.{boundOf}
+use Rattle.confinement.specs.Refusals.{verdictOf, verdictNumber}
+use Rattle.confinement.specs.Agreement.{AgreeOutside}
+use Rattle.requests.specs.Asks.{Ask}
+use Rattle.requests.specs.Steps.{runTable}
+use Rattle.isolation.specs.Clean.{Clean, cleanAtStart, cleanAtEnd, cleanRequests, cleanReplies}
+
+-- "The same record means that every field and every slot is equal": the two tables agree on the objects of C
+pub record AgreeOn (C : Clean) (t u : Table) : Type 0 where
+  pub records : (n : ℕ) → C n ≡ true → recordAt t n ≡ recordAt u n
+  pub slots : (n j : ℕ) → j < 8 → C n ≡ true → slotAt t n j ≡ slotAt u n j
+
+-- what two runs share, that start with the clean objects C and D
+pub record Alike (t u : Table) (C D : Clean) (ps qs : List Ask) : Type 0 where
+  pub clean : (n : ℕ) → cleanAtEnd t C ps n ≡ cleanAtEnd u D qs n
+  pub cells : AgreeOn (cleanAtEnd t C ps) (runTable t ps) (runTable u qs)
+  pub replies : cleanReplies t C ps ≡ cleanReplies u D qs
+
+-- two tables that agree on every non-member; the same members and list, accepted in both
+pub record Tested (t u : Table) (members : ℕ) (list : List Capability) : Type 0 where
+  pub left : IsTable t
+  pub right : IsTable u
+  pub accepted-left : verdictNumber (verdictOf t members list) ≡ 0
+  pub accepted-right : verdictNumber (verdictOf u members list) ≡ 0
+  pub agree : AgreeOutside members t u
+
+-- demand 3
+pub record Same (t u : Table) (members : ℕ) (list : List Capability) : Type 0 where
+  pub bound : boundOf t members list ≡ boundOf u members list
+  pub runs : (ps qs : List Ask)
+      → cleanRequests t (cleanAtStart t members list) ps ≡ cleanRequests u (cleanAtStart u members list) qs
+      → Alike t u (cleanAtStart t members list) (cleanAtStart u members list) ps qs
+
+unfoldable pub TwoRuns : Type 0
+TwoRuns = (t u : Table) (members : ℕ) (list : List Capability) → Tested t u members list → Same t u members list

@@ -1,0 +1,32 @@
+-- Document 01: "The program `confine` reads from standard input an image, 8 bytes of members, a count byte, and 2 bytes (target,
+-- rights) an entry: 1,932 plus 2 times the count bytes, nothing more".
+use mathlib.Core.Bool.{Bool, not, _||_}
+use mathlib.Core.List.{List}
+use Prim.Native.Nat.{ℕ, _+_, _*_}
+use lib.Dec.{ltb, eqb}
+use lib.ListN.{length, take, drop}
+use Rattle.table.specs.declared.Capability.{Capability}
+use Rattle.table.specs.Lists.{tabulate}
+use Rattle.image.specs.Numbers.{numberOf}
+use Rattle.image.specs.Layout.{imageLength, byteAt}
+
+-- members, count
+abbrev pub fixedLength : ℕ
+fixedLength = imageLength + 9
+
+abbrev pub countOf : List ℕ → ℕ
+countOf input = byteAt input (imageLength + 8)
+
+-- 17: "input of wrong length"
+unfoldable pub wrongLength : List ℕ → Bool
+wrongLength input = ltb (length input) fixedLength || not (eqb (length input) (fixedLength + 2 * countOf input))
+
+abbrev pub imagePart : List ℕ → List ℕ
+imagePart input = take imageLength input
+
+unfoldable pub membersOf : List ℕ → ℕ
+membersOf input = numberOf (take 8 (drop imageLength input))
+
+unfoldable pub listOf : List ℕ → List Capability
+listOf input = tabulate (countOf input)
+    (λ k. record { target = byteAt input (fixedLength + 2 * k); rights = byteAt input (fixedLength + 2 * k + 1) })

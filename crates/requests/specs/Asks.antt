@@ -1,0 +1,53 @@
+-- Document 01, "The eight requests": a request as it is written there, with its fields in the order shown and a true list of
+-- pairs. Sameness of requests, field for field, is equality of these.
+use mathlib.Core.List.{List, [], _∷_}
+use Prim.Native.Nat.{ℕ}
+use lib.ListN.{getD}
+use Rattle.table.specs.Lists.{tabulate}
+use Rattle.requests.specs.declared.Pair.{Pair}
+use Rattle.requests.specs.declared.PairList.{PairList}
+use Rattle.requests.specs.declared.Request.{Request}
+use Rattle.requests.specs.declared.Request.the-variants.{Read, Write, Fetch, Store, Revoke, Send, Allocate, Destroy, Unknown}
+
+-- codes 1 to 8 in turn; `unknown` is any other code
+pub data Ask : Type 0 where
+  read : (actor t : ℕ) → Ask
+  write : (actor t word : ℕ) → Ask
+  fetch : (actor t i j : ℕ) → Ask
+  store : (actor t i j : ℕ) → Ask
+  revoke : (actor t j : ℕ) → Ask
+  send : (actor t word : ℕ) (list : List Pair) (reply : ℕ) → Ask
+  allocate : (actor n kind part i : ℕ) (list : List Pair) → Ask
+  destroy : (actor t : ℕ) → Ask
+  unknown : (code actor : ℕ) → Ask
+
+abbrev pub actorOf : Ask → ℕ
+actorOf (read a t) = a
+actorOf (write a t w) = a
+actorOf (fetch a t i j) = a
+actorOf (store a t i j) = a
+actorOf (revoke a t j) = a
+actorOf (send a t w l y) = a
+actorOf (allocate a n k p i l) = a
+actorOf (destroy a t) = a
+actorOf (unknown c a) = a
+
+-- the pair at a place of a list, as the code holds it
+abbrev pub pairAt : PairList → ℕ → Pair
+pairAt l k = getD (l .pairs) k (record { from = 0; to = 0 })
+
+-- as many pairs as the count says: a count above 4 is a list too long, and what stands at or after the count is left out
+unfoldable pub pairsOf : PairList → List Pair
+pairsOf l = tabulate (l .count) (pairAt l)
+
+-- the request that the code's two values are
+unfoldable pub askOf : Request → PairList → Ask
+askOf (Read a t) l = read a t
+askOf (Write a t w) l = write a t w
+askOf (Fetch a t i j) l = fetch a t i j
+askOf (Store a t i j) l = store a t i j
+askOf (Revoke a t j) l = revoke a t j
+askOf (Send a t w y) l = send a t w (pairsOf l) y
+askOf (Allocate a n k p i) l = allocate a n k p i (pairsOf l)
+askOf (Destroy a t) l = destroy a t
+askOf (Unknown c a) l = unknown c a

@@ -1,0 +1,5 @@
+pub mod Asks
+pub mod Replies
+pub mod Refusals
+pub mod Effects
+pub mod Steps

@@ -1,0 +1,52 @@
+//! The program `confine`: from the bytes of its input to the text that it prints.
+//! The input is an image, 8 bytes of members, a count byte and 2 bytes for each entry.
+
+use crate::confinement::{confinement_test, Entry};
+use crate::image::{big_endian, read, IMAGE_LENGTH};
+use crate::refusal::Refusal;
+use crate::set;
+
+/// Where the count byte stands: after the image and the members.
+const COUNT_AT: usize = IMAGE_LENGTH + 8;
+/// Where the entries begin.
+const ENTRIES_AT: usize = COUNT_AT + 1;
+
+/// The text printed for an input. Every line ends with a newline.
+pub fn confine(input: &[u8]) -> String {
+    if !length_is_right(input) {
+        return refused(Refusal::InputLength.number());
+    }
+    let (number, table) = read(&input[..IMAGE_LENGTH]);
+    if number != 0 {
+        return refused(number);
+    }
+    let members = big_endian(&input[IMAGE_LENGTH..COUNT_AT]);
+    let list: Vec<Entry> = input[ENTRIES_AT..]
+        .chunks_exact(2)
+        .map(|entry| (entry[0], entry[1]))
+        .collect();
+    match confinement_test(&table, members, &list) {
+        (0, bound) => accepted(bound),
+        (number, _) => refused(number),
+    }
+}
+
+/// Whether the input ends exactly after as many entries as the count byte says.
+fn length_is_right(input: &[u8]) -> bool {
+    match input.get(COUNT_AT) {
+        Some(&count) => input.len() == ENTRIES_AT + 2 * usize::from(count),
+        None => false,
+    }
+}
+
+fn accepted(bound: u64) -> String {
+    let mut text = String::from("accepted\n");
+    for n in set::numbers(bound) {
+        text.push_str(&format!("{n}\n"));
+    }
+    text
+}
+
+fn refused(number: u8) -> String {
+    format!("refused {number}\n")
+}

@@ -1,0 +1,103 @@
+//! The confinement test: whether a set of members is confined to a list, and to which bound.
+//! All members are replaced by one stand-in, a point after the 64 numbers, that holds the list.
+
+use crate::access::Relation;
+use crate::refusal::Refusal;
+use crate::set;
+use crate::table::{Table, ALL_RIGHTS, OBJECTS};
+
+/// The largest number of entries in a list.
+pub const MAX_ENTRIES: usize = 8;
+
+/// An entry of the list: target, rights.
+pub type Entry = (u8, u8);
+
+/// The point of the stand-in.
+const STAND_IN: usize = OBJECTS;
+/// The points of the relation that gives the bound.
+const POINTS: usize = OBJECTS + 1;
+
+/// The test: 0 and the bound, or the refusal number and an empty bound.
+pub fn confinement_test(table: &Table, members: u64, list: &[Entry]) -> (u8, u64) {
+    match check(table, members, list) {
+        Ok(()) => (0, bound(table, members, list)),
+        Err(refusal) => (refusal.number(), 0),
+    }
+}
+
+/// The checks in number order.
+fn check(table: &Table, members: u64, list: &[Entry]) -> Result<(), Refusal> {
+    if !table.is_sound() {
+        return Err(Refusal::TableNotSound);
+    }
+    if members == 0 || !set::numbers(members).all(|n| table.record(n).is_alive()) {
+        return Err(Refusal::MembersNotAlive);
+    }
+    if !list_is_valid(table, members, list) {
+        return Err(Refusal::ListInvalid);
+    }
+    if !members_hold_only_listed_rights(table, members, list) {
+        return Err(Refusal::RightNotListed);
+    }
+    if !members_are_unnamed_outside(table, members) {
+        return Err(Refusal::MemberNamedOutside);
+    }
+    Ok(())
+}
+
+fn list_is_valid(table: &Table, members: u64, list: &[Entry]) -> bool {
+    list.len() <= MAX_ENTRIES
+        && list.iter().all(|&(target, rights)| {
+            (1..=ALL_RIGHTS).contains(&rights)
+                && table.is_born(target)
+                && !set::contains(members, target)
+        })
+}
+
+/// The rights listed for a target: the union over its entries.
+fn listed_rights(list: &[Entry], target: u8) -> u8 {
+    list.iter()
+        .filter(|entry| entry.0 == target)
+        .fold(0, |union, entry| union | entry.1)
+}
+
+fn members_hold_only_listed_rights(table: &Table, members: u64, list: &[Entry]) -> bool {
+    set::numbers(members).all(|member| {
+        table.record(member).capabilities().all(|held| {
+            set::contains(members, held.target)
+                || held.rights & !listed_rights(list, held.target) == 0
+        })
+    })
+}
+
+fn members_are_unnamed_outside(table: &Table, members: u64) -> bool {
+    set::numbers(!members).all(|outsider| {
+        table
+            .record(outsider)
+            .capabilities()
+            .all(|held| !set::contains(members, held.target))
+    })
+}
+
+/// The set of non-members influenced by the stand-in. No record of a member is read.
+fn bound(table: &Table, members: u64, list: &[Entry]) -> u64 {
+    let mut relation = Relation::<POINTS>::none();
+    for n in set::numbers(!members) {
+        let record = table.record(n);
+        if record.is_born() {
+            relation.add(usize::from(n), usize::from(n), ALL_RIGHTS);
+        }
+        for held in record.capabilities() {
+            relation.add(usize::from(n), usize::from(held.target), held.rights);
+        }
+    }
+    relation.add(STAND_IN, STAND_IN, ALL_RIGHTS);
+    for &(target, rights) in list {
+        relation.add(STAND_IN, usize::from(target), rights);
+    }
+    relation.saturate();
+    let influenced = relation.influenced_points(STAND_IN);
+    set::numbers(!members)
+        .filter(|&n| influenced[usize::from(n)])
+        .fold(0, |bound, n| bound | set::single(n))
+}

@@ -1,0 +1,16 @@
+//! Reference model of a capability table with a confinement test, in plain safe Rust.
+//! It is written from document 01 alone, so that other implementations can be compared with it.
+
+#![forbid(unsafe_code)]
+
+pub mod access;
+pub mod confine;
+pub mod confinement;
+pub mod generate;
+pub mod image;
+pub mod json;
+pub mod refusal;
+pub mod rng;
+pub mod set;
+pub mod step;
+pub mod table;

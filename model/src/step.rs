@@ -1,0 +1,331 @@
+//! The eight requests: what refuses them, what they do, and runs of several requests.
+//! A step exists in two forms, table in and table out, and on a table lent to be changed.
+
+use crate::refusal::{reply_number, Refusal};
+use crate::set;
+use crate::table::{Capability, Record, Slots, Table};
+use crate::table::{ACTIVE, ALIVE, ALL_RIGHTS, DEAD, OBJECTS, RD, SLOTS, TX, WK, WR};
+
+/// The largest number of pairs in a list.
+pub const MAX_PAIRS: usize = 4;
+/// The reply field of a send that asks for no reply slot.
+pub const NO_REPLY: u8 = 8;
+
+/// A pair: the actor's slot, the destination slot.
+pub type Pair = (u8, u8);
+
+/// A request with the fields of document 01. Any field may be out of range, and a list of any
+/// length can be stated: that is for the step to refuse.
+#[derive(Clone, Debug, PartialEq, Eq)]
+pub enum Request {
+    Read {
+        actor: u8,
+        t: u8,
+    },
+    Write {
+        actor: u8,
+        t: u8,
+        word: u32,
+    },
+    Fetch {
+        actor: u8,
+        t: u8,
+        i: u8,
+        j: u8,
+    },
+    Store {
+        actor: u8,
+        t: u8,
+        i: u8,
+        j: u8,
+    },
+    Revoke {
+        actor: u8,
+        t: u8,
+        j: u8,
+    },
+    Send {
+        actor: u8,
+        t: u8,
+        word: u32,
+        list: Vec<Pair>,
+        reply: u8,
+    },
+    Allocate {
+        actor: u8,
+        n: u8,
+        kind: u8,
+        part: u64,
+        i: u8,
+        list: Vec<Pair>,
+    },
+    Destroy {
+        actor: u8,
+        t: u8,
+    },
+    /// A code that is not 1 to 8.
+    Unknown {
+        code: u8,
+        actor: u8,
+    },
+}
+
+impl Request {
+    /// The code of the request.
+    pub fn code(&self) -> u8 {
+        match self {
+            Request::Read { .. } => 1,
+            Request::Write { .. } => 2,
+            Request::Fetch { .. } => 3,
+            Request::Store { .. } => 4,
+            Request::Revoke { .. } => 5,
+            Request::Send { .. } => 6,
+            Request::Allocate { .. } => 7,
+            Request::Destroy { .. } => 8,
+            Request::Unknown { code, .. } => *code,
+        }
+    }
+
+    /// The number that makes the request.
+    pub fn actor(&self) -> u8 {
+        match self {
+            Request::Read { actor, .. }
+            | Request::Write { actor, .. }
+            | Request::Fetch { actor, .. }
+            | Request::Store { actor, .. }
+            | Request::Revoke { actor, .. }
+            | Request::Send { actor, .. }
+            | Request::Allocate { actor, .. }
+            | Request::Destroy { actor, .. }
+            | Request::Unknown { actor, .. } => *actor,
+        }
+    }
+
+    /// The actor's slot that is used, and the rights of which it needs at least one.
+    /// Allocate and unknown codes use no slot.
+    pub fn used_slot(&self) -> Option<(u8, u8)> {
+        match self {
+            Request::Read { t, .. } | Request::Fetch { t, .. } => Some((*t, RD | WK)),
+            Request::Write { t, .. }
+            | Request::Store { t, .. }
+            | Request::Revoke { t, .. }
+            | Request::Destroy { t, .. } => Some((*t, WR)),
+            Request::Send { t, .. } => Some((*t, TX)),
+            Request::Allocate { .. } | Request::Unknown { .. } => None,
+        }
+    }
+
+    /// Whether the code is known and no field is out of range.
+    fn fields_are_in_range(&self) -> bool {
+        let actor_is_number = is_number(self.actor());
+        actor_is_number
+            && match self {
+                Request::Read { t, .. } | Request::Write { t, .. } | Request::Destroy { t, .. } => {
+                    is_slot(*t)
+                }
+                Request::Fetch { t, i, j, .. } | Request::Store { t, i, j, .. } => {
+                    is_slot(*t) && is_slot(*i) && is_slot(*j)
+                }
+                Request::Revoke { t, j, .. } => is_slot(*t) && is_slot(*j),
+                Request::Send { t, list, reply, .. } => {
+                    is_slot(*t) && is_list(list) && *reply <= NO_REPLY
+                }
+                Request::Allocate {
+                    n, kind, i, list, ..
+                } => is_number(*n) && *kind <= ACTIVE && is_slot(*i) && is_list(list),
+                Request::Unknown { .. } => false,
+            }
+    }
+}
+
+fn is_number(n: u8) -> bool {
+    usize::from(n) < OBJECTS
+}
+
+fn is_slot(slot: u8) -> bool {
+    usize::from(slot) < SLOTS
+}
+
+fn is_list(list: &[Pair]) -> bool {
+    list.len() <= MAX_PAIRS && list.iter().all(|&(from, to)| is_slot(from) && is_slot(to))
+}
+
+/// One request, table in and table out, with the reply: 0 for done, or the refusal number.
+pub fn step(table: &Table, request: &Request) -> (u8, Table) {
+    let mut after = table.clone();
+    let reply = step_in_place(&mut after, request);
+    (reply, after)
+}
+
+/// One request on a table lent to be changed. A refused request leaves the table as it was.
+pub fn step_in_place(table: &mut Table, request: &Request) -> u8 {
+    let outcome = check(table, request);
+    if outcome.is_ok() {
+        apply(table, request);
+    }
+    reply_number(&outcome)
+}
+
+/// A run: each request gets the table that the one before it left. The replies are in order.
+pub fn run(start: &Table, requests: &[Request]) -> (Vec<u8>, Table) {
+    let mut table = start.clone();
+    let replies = requests
+        .iter()
+        .map(|request| step_in_place(&mut table, request))
+        .collect();
+    (replies, table)
+}
+
+/// The checks in number order, among those that apply to the request.
+fn check(table: &Table, request: &Request) -> Result<(), Refusal> {
+    if !table.is_sound() {
+        return Err(Refusal::TableNotSound);
+    }
+    if !request.fields_are_in_range() {
+        return Err(Refusal::FieldOutOfRange);
+    }
+    let actor = table.record(request.actor());
+    if !actor.is_alive() || !actor.is_active() {
+        return Err(Refusal::ActorNotRunning);
+    }
+    if let Some((t, needed)) = request.used_slot() {
+        check_used_slot(table, request, actor.slots[usize::from(t)], needed)?;
+    }
+    if let Request::Allocate { n, part, .. } = request {
+        check_stock(actor, *n, *part)?;
+    }
+    Ok(())
+}
+
+/// Checks 4 to 8, for the requests that use a slot of the actor.
+fn check_used_slot(
+    table: &Table,
+    request: &Request,
+    used: Capability,
+    needed: u8,
+) -> Result<(), Refusal> {
+    if used.is_empty() {
+        return Err(Refusal::SlotEmpty);
+    }
+    let target = table.record(used.target);
+    if !target.is_alive() {
+        return Err(Refusal::TargetDead);
+    }
+    if !used.has_any(needed) {
+        return Err(Refusal::RightAbsent);
+    }
+    if matches!(request, Request::Send { .. }) && !target.is_active() {
+        return Err(Refusal::TargetPassive);
+    }
+    if matches!(request, Request::Destroy { .. }) && used.target == request.actor() {
+        return Err(Refusal::DestroyOfActor);
+    }
+    Ok(())
+}
+
+/// Check 9, for allocate alone.
+fn check_stock(actor: &Record, n: u8, part: u64) -> Result<(), Refusal> {
+    let own = set::contains(actor.stock, n);
+    if own && set::is_within(part, actor.stock & !set::single(n)) {
+        Ok(())
+    } else {
+        Err(Refusal::OutsideStock)
+    }
+}
+
+/// The effect of a request that passed every check.
+fn apply(table: &mut Table, request: &Request) {
+    let actor = request.actor();
+    let before = *table.record(actor);
+    let used = match request.used_slot() {
+        Some((t, _)) => before.slots[usize::from(t)],
+        None => Capability::EMPTY,
+    };
+    match request {
+        Request::Read { .. } => {
+            table.record_mut(actor).word = table.record(used.target).word;
+        }
+        Request::Write { word, .. } => table.record_mut(used.target).word = *word,
+        Request::Fetch { i, j, .. } => {
+            let found = table.record(used.target).slots[usize::from(*i)];
+            let copy = if used.has_any(RD) {
+                found
+            } else {
+                weaken(found)
+            };
+            table.record_mut(actor).slots[usize::from(*j)] = copy;
+        }
+        Request::Store { i, j, .. } => {
+            table.record_mut(used.target).slots[usize::from(*j)] = before.slots[usize::from(*i)];
+        }
+        Request::Revoke { j, .. } => {
+            table.record_mut(used.target).slots[usize::from(*j)] = Capability::EMPTY;
+        }
+        Request::Send {
+            word, list, reply, ..
+        } => {
+            let target = table.record_mut(used.target);
+            target.word = *word;
+            copy_pairs(&before.slots, list, &mut target.slots);
+            if *reply != NO_REPLY {
+                target.slots[usize::from(*reply)] = Capability::new(actor, TX);
+            }
+        }
+        Request::Allocate { .. } => apply_allocate(table, request, &before),
+        Request::Destroy { .. } => apply_destroy(table, actor, used.target),
+        Request::Unknown { .. } => {}
+    }
+}
+
+/// The effect of allocate. `before` is the actor's record before the request.
+fn apply_allocate(table: &mut Table, request: &Request, before: &Record) {
+    if let Request::Allocate {
+        actor,
+        n,
+        kind,
+        part,
+        i,
+        list,
+    } = request
+    {
+        let mut made = Record {
+            status: ALIVE,
+            kind: *kind,
+            stock: *part,
+            ..Record::UNBORN
+        };
+        copy_pairs(&before.slots, list, &mut made.slots);
+        *table.record_mut(*n) = made;
+        let maker = table.record_mut(*actor);
+        maker.stock &= !(set::single(*n) | *part);
+        maker.slots[usize::from(*i)] = Capability::new(*n, ALL_RIGHTS);
+    }
+}
+
+/// The effect of destroy: only the kind of the target stays, and its stock joins the actor's.
+fn apply_destroy(table: &mut Table, actor: u8, target: u8) {
+    let destroyed = *table.record(target);
+    *table.record_mut(target) = Record {
+        status: DEAD,
+        kind: destroyed.kind,
+        ..Record::UNBORN
+    };
+    table.record_mut(actor).stock |= destroyed.stock;
+}
+
+/// Copies pairs left to right. The source is a copy made before the request, because the
+/// destination may be the actor itself.
+fn copy_pairs(source: &Slots, list: &[Pair], destination: &mut Slots) {
+    for &(from, to) in list {
+        destination[usize::from(to)] = source[usize::from(from)];
+    }
+}
+
+/// What a fetch without rd gets: wk alone if rd or wk was present, otherwise nothing.
+pub fn weaken(capability: Capability) -> Capability {
+    if capability.has_any(RD | WK) {
+        Capability::new(capability.target, WK)
+    } else {
+        Capability::EMPTY
+    }
+}

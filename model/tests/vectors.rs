@@ -1,0 +1,209 @@
+//! The test vectors in `vectors/`: steps, potential access, tests and inputs of `confine`.
+//! Every line of every file is compared in full.
+
+use std::fs;
+use std::path::PathBuf;
+
+use yavrinks_model::access::{potential_access, Access};
+use yavrinks_model::confine::confine;
+use yavrinks_model::confinement::confinement_test;
+use yavrinks_model::json::Json;
+use yavrinks_model::set;
+use yavrinks_model::step::{step, step_in_place, Request};
+use yavrinks_model::table::{Capability, Record, Table};
+
+fn vectors() -> PathBuf {
+    PathBuf::from(env!("CARGO_MANIFEST_DIR")).join("vectors")
+}
+
+/// The values of a file that holds one JSON value a line.
+fn lines(file: &str) -> Vec<Json> {
+    let text = fs::read_to_string(vectors().join(file)).expect("vector file");
+    text.lines()
+        .map(|line| Json::parse(line).expect("JSON"))
+        .collect()
+}
+
+fn field<'a>(value: &'a Json, key: &str) -> &'a Json {
+    value.get(key).unwrap_or_else(|| panic!("field {key}"))
+}
+
+fn number(value: &Json) -> u64 {
+    value.as_number().expect("number")
+}
+
+fn byte(value: &Json) -> u8 {
+    u8::try_from(number(value)).expect("byte")
+}
+
+/// A byte that is 0 where it is missing.
+fn byte_or_zero(value: &Json, key: &str) -> u8 {
+    value.get(key).map_or(0, byte)
+}
+
+fn number_set(value: &Json) -> u64 {
+    let numbers: Vec<u8> = value.as_list().expect("list").iter().map(byte).collect();
+    set::of(&numbers)
+}
+
+fn pair(value: &Json) -> (u8, u8) {
+    match value.as_list() {
+        Some([first, second]) => (byte(first), byte(second)),
+        _ => panic!("a pair was expected"),
+    }
+}
+
+fn pairs(value: &Json) -> Vec<(u8, u8)> {
+    value.as_list().expect("list").iter().map(pair).collect()
+}
+
+fn index(key: &str) -> usize {
+    key.parse().expect("number as key")
+}
+
+fn record(value: &Json) -> Record {
+    let known = ["status", "kind", "word", "stock", "slots"];
+    for key in value.as_object().expect("record").keys() {
+        assert!(known.contains(&key.as_str()), "field {key} in a record");
+    }
+    let mut record = Record::UNBORN;
+    record.status = byte_or_zero(value, "status");
+    record.kind = byte_or_zero(value, "kind");
+    record.word = u32::try_from(value.get("word").map_or(0, number)).expect("word");
+    record.stock = value.get("stock").map_or(0, number_set);
+    if let Some(slots) = value.get("slots") {
+        for (key, slot) in slots.as_object().expect("slots") {
+            let (target, rights) = pair(slot);
+            record.slots[index(key)] = Capability::new(target, rights);
+        }
+    }
+    record
+}
+
+fn table(value: &Json) -> Table {
+    let mut table = Table::unborn();
+    for (key, value) in value.as_object().expect("table") {
+        table.records[index(key)] = record(value);
+    }
+    table
+}
+
+fn request(value: &Json) -> Request {
+    let of = |key: &str| byte(field(value, key));
+    let word = || u32::try_from(number(field(value, "word"))).expect("word");
+    let list = || pairs(field(value, "list"));
+    let (code, actor) = (of("code"), of("actor"));
+    match code {
+        1 => Request::Read { actor, t: of("t") },
+        2 => Request::Write {
+            actor,
+            t: of("t"),
+            word: word(),
+        },
+        3 => Request::Fetch {
+            actor,
+            t: of("t"),
+            i: of("i"),
+            j: of("j"),
+        },
+        4 => Request::Store {
+            actor,
+            t: of("t"),
+            i: of("i"),
+            j: of("j"),
+        },
+        5 => Request::Revoke {
+            actor,
+            t: of("t"),
+            j: of("j"),
+        },
+        6 => Request::Send {
+            actor,
+            t: of("t"),
+            word: word(),
+            list: list(),
+            reply: of("reply"),
+        },
+        7 => Request::Allocate {
+            actor,
+            n: of("n"),
+            kind: of("kind"),
+            part: number_set(field(value, "part")),
+            i: of("i"),
+            list: list(),
+        },
+        8 => Request::Destroy { actor, t: of("t") },
+        _ => Request::Unknown { code, actor },
+    }
+}
+
+#[test]
+fn steps() {
+    let lines = lines("steps.jsonl");
+    assert_eq!(lines.len(), 360);
+    for (line, value) in lines.iter().enumerate() {
+        let before = table(field(value, "table"));
+        let request = request(field(value, "request"));
+        let reply = byte(field(value, "reply"));
+        let after = match field(value, "after") {
+            Json::Null => before.clone(),
+            changed => table(changed),
+        };
+        let outcome = step(&before, &request);
+        assert_eq!(outcome, (reply, after.clone()), "line {}", line + 1);
+        let mut lent = before;
+        assert_eq!(step_in_place(&mut lent, &request), reply);
+        assert_eq!(lent, after, "line {}", line + 1);
+    }
+}
+
+#[test]
+fn access() {
+    let lines = lines("access.jsonl");
+    assert_eq!(lines.len(), 30);
+    for (line, value) in lines.iter().enumerate() {
+        let mut expected = Access::none();
+        for (holder, row) in field(value, "rows").as_object().expect("rows") {
+            for (target, rights) in row.as_object().expect("row") {
+                expected.rights[index(holder)][index(target)] = byte(rights);
+            }
+        }
+        let expected = (byte(field(value, "number")), expected);
+        let outcome = potential_access(&table(field(value, "table")));
+        assert_eq!(outcome, expected, "line {}", line + 1);
+    }
+}
+
+#[test]
+fn tests() {
+    let lines = lines("tests.jsonl");
+    assert_eq!(lines.len(), 180);
+    for (line, value) in lines.iter().enumerate() {
+        let outcome = confinement_test(
+            &table(field(value, "table")),
+            number_set(field(value, "members")),
+            &pairs(field(value, "list")),
+        );
+        let expected = (
+            byte(field(value, "number")),
+            number_set(field(value, "bound")),
+        );
+        assert_eq!(outcome, expected, "line {}", line + 1);
+    }
+}
+
+#[test]
+fn confine_cases() {
+    let folder = vectors().join("confine");
+    let mut count = 0;
+    for entry in fs::read_dir(folder).expect("vector folder") {
+        let path = entry.expect("entry").path();
+        if path.extension().is_some_and(|extension| extension == "in") {
+            let input = fs::read(&path).expect("input");
+            let output = fs::read_to_string(path.with_extension("out")).expect("output");
+            assert_eq!(confine(&input), output, "{}", path.display());
+            count += 1;
+        }
+    }
+    assert_eq!(count, 48);
+}
