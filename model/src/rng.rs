@@ -32,6 +32,15 @@ impl Rng {
         self.between(u64::from(low), u64::from(high)) as u8
     }
 
+    /// A byte above `highest`, which is below 255. Half of the time it is the very next one.
+    pub fn byte_above(&mut self, highest: u8) -> u8 {
+        if self.percent(50) {
+            highest + 1
+        } else {
+            self.byte(highest + 1, 255)
+        }
+    }
+
     /// True in about `percent` of 100 calls.
     pub fn percent(&mut self, percent: u64) -> bool {
         self.between(0, 99) < percent

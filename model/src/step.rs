@@ -117,24 +117,23 @@ impl Request {
 
     /// Whether the code is known and no field is out of range.
     fn fields_are_in_range(&self) -> bool {
-        let actor_is_number = is_number(self.actor());
-        actor_is_number
-            && match self {
-                Request::Read { t, .. } | Request::Write { t, .. } | Request::Destroy { t, .. } => {
-                    is_slot(*t)
-                }
-                Request::Fetch { t, i, j, .. } | Request::Store { t, i, j, .. } => {
-                    is_slot(*t) && is_slot(*i) && is_slot(*j)
-                }
-                Request::Revoke { t, j, .. } => is_slot(*t) && is_slot(*j),
-                Request::Send { t, list, reply, .. } => {
-                    is_slot(*t) && is_list(list) && *reply <= NO_REPLY
-                }
-                Request::Allocate {
-                    n, kind, i, list, ..
-                } => is_number(*n) && *kind <= ACTIVE && is_slot(*i) && is_list(list),
-                Request::Unknown { .. } => false,
+        let others_are_in_range = match self {
+            Request::Read { t, .. } | Request::Write { t, .. } | Request::Destroy { t, .. } => {
+                is_slot(*t)
             }
+            Request::Fetch { t, i, j, .. } | Request::Store { t, i, j, .. } => {
+                is_slot(*t) && is_slot(*i) && is_slot(*j)
+            }
+            Request::Revoke { t, j, .. } => is_slot(*t) && is_slot(*j),
+            Request::Send { t, list, reply, .. } => {
+                is_slot(*t) && is_list(list) && *reply <= NO_REPLY
+            }
+            Request::Allocate {
+                n, kind, i, list, ..
+            } => is_number(*n) && *kind <= ACTIVE && is_slot(*i) && is_list(list),
+            Request::Unknown { .. } => false,
+        };
+        is_number(self.actor()) && others_are_in_range
     }
 }
 

@@ -145,7 +145,7 @@ fn potential_access_agrees_with_single_facts() {
         let (number, access) = potential_access(&table);
         assert_eq!(number, 0);
         let reach = facts.reach();
-        for x in 0..64 {
+        for (x, record) in table.records.iter().enumerate() {
             for y in 0..64 {
                 assert_eq!(access.rights[x][y], facts.rights(x, y), "{x} over {y}");
                 assert_eq!(access.influences(x, y), facts.influences(x, y));
@@ -154,7 +154,7 @@ fn potential_access_agrees_with_single_facts() {
             let expected = (0..64).filter(|&y| reach[x][y]);
             assert_eq!(influenced, expected.fold(0, |set, y| set | 1 << y));
             partial += u32::from(influenced.count_ones() > 1 && influenced != u64::MAX);
-            assert_eq!(influenced == 0, !table.records[x].is_born());
+            assert_eq!(influenced == 0, !record.is_born());
         }
         assert_unborn_have_no_rights(&table, &access.rights);
     }
@@ -162,10 +162,10 @@ fn potential_access_agrees_with_single_facts() {
 }
 
 fn assert_unborn_have_no_rights(table: &Table, rights: &[[u8; 64]; 64]) {
-    for x in 0..64 {
-        for y in 0..64 {
+    for (x, row) in rights.iter().enumerate() {
+        for (y, &held) in row.iter().enumerate() {
             let born = table.records[x].is_born() && table.records[y].is_born();
-            assert!(born || rights[x][y] == 0);
+            assert!(born || held == 0);
         }
     }
 }
@@ -268,19 +268,21 @@ fn listed_rights_are_the_union_over_entries() {
 }
 
 #[test]
-fn passive_and_listed_holders_count_at_13_and_dead_targets_at_11() {
+fn passive_holders_count_at_13() {
     let mut table = Table::k();
     table.records[6].slots[7] = Capability::new(5, 1);
+    assert_eq!(confinement_test(&table, set::of(&[5]), &[(1, 2)]), (13, 0));
+}
+
+#[test]
+fn dead_non_members_may_be_listed_and_unborn_ones_not() {
+    let mut table = Table::k();
+    table.records[6].status = 2;
     let members = set::of(&[5]);
-    assert_eq!(confinement_test(&table, members, &[(1, 2)]).0, 13);
-    table.records[6] = Record {
-        status: 2,
-        ..Record::UNBORN
-    };
-    // A dead non-member is born, so it may be listed.
     assert_eq!(
         confinement_test(&table, members, &[(1, 2), (6, 15)]),
         (0, set::of(&[0, 1, 2, 6]))
     );
-    assert_eq!(confinement_test(&table, members, &[(7, 15)]).0, 11);
+    let unborn = confinement_test(&table, members, &[(1, 2), (7, 15)]);
+    assert_eq!(unborn, (11, 0));
 }

@@ -26,13 +26,13 @@ impl Run {
         }
     }
 
-    fn from_clean(&self, request: &Request) -> bool {
+    fn is_of_clean(&self, request: &Request) -> bool {
         set::contains(self.clean, request.actor())
     }
 
     /// Takes a step; an allocate of a clean actor that is done makes its n clean.
     fn take(&mut self, request: Request) {
-        let clean_actor = self.from_clean(&request);
+        let clean_actor = self.is_of_clean(&request);
         let reply = step_in_place(&mut self.table, &request);
         if !clean_actor {
             self.by_others += u32::from(reply == 0);
@@ -57,7 +57,7 @@ fn random_request(rng: &mut Rng, table: &Table) -> Request {
 fn request_of_others(rng: &mut Rng, run: &Run) -> Option<Request> {
     (0..10)
         .map(|_| random_request(rng, &run.table))
-        .find(|request| !run.from_clean(request))
+        .find(|request| !run.is_of_clean(request))
 }
 
 #[test]
@@ -81,9 +81,11 @@ fn clean_objects_see_the_same_in_both_runs() {
         let mut second = Run::new(&case.table, clean);
         for (request, _) in &first.asked {
             while rng.percent(50) {
-                request_of_others(&mut rng, &second).map(|other| second.take(other));
+                if let Some(other) = request_of_others(&mut rng, &second) {
+                    second.take(other);
+                }
             }
-            assert!(second.from_clean(request));
+            assert!(second.is_of_clean(request));
             second.take(request.clone());
         }
         assert_eq!(first.asked, second.asked);

@@ -10,22 +10,31 @@ use Rattle.table.specs.declared.Table.{Table}
 use Rattle.table.specs.Cells.{recordAt, slotAt, stockAt, isAlive, isUnborn, bornAt, isEmpty}
 
 -- "Statuses and kinds have the values above"
-unfoldable pub valuesSound : Record → Bool
+abbrev pub valuesSound : Record → Bool
 valuesSound r = leb (r .status) 2 && leb (r .kind) 1
 
 -- "An unborn record has kind 0"
-unfoldable pub unbornSound : Record → Bool
+abbrev pub unbornSound : Record → Bool
 unbornSound r = not (isUnborn r) || eqb (r .kind) 0
 
 -- "Unborn and dead records have word 0, an empty stock and empty slots"
-unfoldable pub idleSound : Table → ℕ → Bool
-idleSound t n =
-    isAlive (recordAt t n)
-    || eqb (recordAt t n .word) 0 && eqb (recordAt t n .stock) 0 && allBelow 8 (λ j. isEmpty (slotAt t n j))
+abbrev pub idleSound : Record → Bool
+idleSound r = isAlive r || eqb (r .word) 0 && eqb (r .stock) 0
 
--- "A filled slot names a born target and has rights 1 to 15"
-unfoldable pub slotSound : Table → Capability → Bool
-slotSound t c = isEmpty c || bornAt t (c .target) && leb 1 (c .rights) && leb (c .rights) 15
+abbrev pub idleSlotSound : Record → Capability → Bool
+idleSlotSound r c = isAlive r || isEmpty c
+
+-- the clauses that speak of the record alone
+abbrev pub recordSound : Record → Bool
+recordSound r = valuesSound r && unbornSound r && idleSound r
+
+-- "A filled slot names a born target and has rights 1 to 15", by whether its target is born
+abbrev pub filledSound : Bool → Capability → Bool
+filledSound born c = isEmpty c || born && leb 1 (c .rights) && leb (c .rights) 15
+
+-- the clauses that speak of slot j of n
+abbrev pub slotSound : Table → ℕ → ℕ → Bool
+slotSound t n j = idleSlotSound (recordAt t n) (slotAt t n j) && filledSound (bornAt t (slotAt t n j .target)) (slotAt t n j)
 
 -- "Every number in a stock is unborn and is in no other stock", for the number k and the stock of n
 unfoldable pub stockSound : Table → ℕ → ℕ → Bool
@@ -33,9 +42,7 @@ stockSound t n k =
     not (has k (stockAt t n)) || isUnborn (recordAt t k) && allBelow 64 (λ m. eqb m n || not (has k (stockAt t m)))
 
 unfoldable pub soundAt : Table → ℕ → Bool
-soundAt t n =
-    valuesSound (recordAt t n) && unbornSound (recordAt t n) && idleSound t n
-    && allBelow 8 (λ j. slotSound t (slotAt t n j)) && allBelow 64 (stockSound t n)
+soundAt t n = recordSound (recordAt t n) && allBelow 8 (slotSound t n) && allBelow 64 (stockSound t n)
 
 -- the table is sound
 unfoldable pub sound : Table → Bool

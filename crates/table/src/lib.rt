@@ -1,4 +1,8 @@
 // The capability table of document 01, "Objects, slots, rights": one value of 64 records, each with its eight slots.
+ghost use mathlib.Core.Path.{_≡_};
+ghost use mathlib.Core.Bool.{_&&_};
+ghost use Rattle.table.specs.Cells.{isBorn, unbornTable};
+ghost use Rattle.table.specs.Soundness.{recordSound, idleSlotSound, filledSound, sound};
 
 // What a slot holds: a target and rights over it (1 rd, 2 wr, 4 wk, 8 tx). Target 0 with rights 0 is an empty slot.
 #[repr(C)]
@@ -21,4 +25,85 @@ pub struct Record {
 pub struct Table {
     pub records: [Record; 64],
     pub slots: [Capability; 512],
+}
+
+// The wholly unborn table.
+pub fn unborn_table() -> Table
+    ensures { λ r. ⌜ r ≡ unbornTable ⌝ }
+{
+    let nobody = Record {
+        status: 0,
+        kind: 0,
+        word: 0,
+        stock: 0,
+    };
+    let nothing = Capability {
+        target: 0,
+        rights: 0,
+    };
+    Table {
+        records: [nobody; 64],
+        slots: [nothing; 512],
+    }
+}
+
+// Alive or dead.
+pub fn is_born(r: Record) -> bool
+    ensures { λ x. ⌜ x ≡ isBorn r ⌝ }
+{
+    (r.status == 1) | (r.status == 2)
+}
+
+// Is the record by itself as a sound table has it?
+pub fn record_sound(r: Record) -> bool
+    ensures { λ x. ⌜ x ≡ recordSound r ⌝ }
+{
+    ((r.status <= 2) & (r.kind <= 1))
+        & (!(r.status == 0) | (r.kind == 0))
+        & ((r.status == 1) | ((r.word == 0) & (r.stock == 0)))
+}
+
+// Is a slot of the record as a sound table has it? `born` says whether its target is born.
+pub fn slot_sound(r: Record, born: bool, c: Capability) -> bool
+    ensures { λ x. ⌜ x ≡ (idleSlotSound r c && filledSound born c) ⌝ }
+{
+    ((r.status == 1) | ((c.target == 0) & (c.rights == 0)))
+        & (((c.target == 0) & (c.rights == 0)) | (born & (1 <= c.rights) & (c.rights <= 15)))
+}
+
+// The soundness scan of records and slots: it ends at the first offence. `taken` are the numbers that no further stock
+// may have: the born ones, and those of the stocks that were passed.
+pub fn is_sound(t: Table) -> bool
+    ensures { λ x. ⌜ x ≡ sound t ⌝ }
+{
+    let mut born: u64 = 0;
+    let mut i: usize = 0;
+    'born: while i < 64 {
+        if is_born(t.records[i]) {
+            born = mask::with(born, i as u8);
+        }
+        i = i + 1;
+    }
+    let mut taken: u64 = born;
+    let mut ok = true;
+    let mut n: usize = 0;
+    'scan: while n < 64 {
+        let r = t.records[n];
+        if !(record_sound(r) & mask::disjoint(r.stock, taken)) {
+            ok = false;
+            break 'scan;
+        }
+        taken = mask::union(taken, r.stock);
+        let mut j: usize = 0;
+        'slots: while j < 8 {
+            let c = t.slots[n * 8 + j];
+            if !slot_sound(r, mask::has(born, c.target), c) {
+                ok = false;
+                break 'scan;
+            }
+            j = j + 1;
+        }
+        n = n + 1;
+    }
+    ok
 }

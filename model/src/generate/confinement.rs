@@ -175,10 +175,10 @@ fn spoil_list(rng: &mut Rng, case: &mut ConfinementCase) -> Option<()> {
     let rights = rng.byte(1, ALL_RIGHTS);
     let entry = match rng.between(0, 5) {
         0 => (rng.pick(&outside)?, 0),
-        1 => (rng.pick(&outside)?, rng.byte(16, 255)),
+        1 => (rng.pick(&outside)?, rng.byte_above(ALL_RIGHTS)),
         2 => (rng.pick(&unborn)?, rights),
         3 => (rng.pick(&members)?, rights),
-        4 => (rng.byte(64, 255), rights),
+        4 => (rng.byte_above(63), rights),
         _ => {
             let length = rng.pick(&[9, 9, 10, 16, 255]).unwrap_or(9);
             while case.list.len() < length {

@@ -245,11 +245,7 @@ fn put_out_of_range(rng: &mut Rng, request: &mut Request) {
     let mut fields = bounded_fields(request);
     let chosen = rng.between(0, fields.len() as u64 - 1) as usize;
     let (field, highest) = &mut fields[chosen];
-    **field = if rng.percent(50) {
-        *highest + 1
-    } else {
-        rng.byte(*highest + 1, 255)
-    };
+    **field = rng.byte_above(*highest);
 }
 
 /// Makes the actor passive, or lets a number act that is not alive or is passive.

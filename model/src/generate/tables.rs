@@ -214,11 +214,11 @@ pub fn damage(rng: &mut Rng, table: &mut Table, kind: Damage) -> Option<()> {
     match kind {
         Damage::StatusValue => {
             let n = rng.byte(0, 63);
-            table.record_mut(n).status = rng.byte(3, 255);
+            table.record_mut(n).status = rng.byte_above(DEAD);
         }
         Damage::KindValue => {
             let n = rng.byte(0, 63);
-            table.record_mut(n).kind = rng.byte(2, 255);
+            table.record_mut(n).kind = rng.byte_above(ACTIVE);
         }
         Damage::UnbornKind => table.record_mut(rng.pick(&unborn)?).kind = ACTIVE,
         Damage::UnbornWord => leave_word(rng, table, &unborn)?,
@@ -266,7 +266,7 @@ fn leave_slot(rng: &mut Rng, table: &mut Table, numbers: &[u8]) -> Option<()> {
 fn damage_target(rng: &mut Rng, table: &mut Table, kind: Damage) -> Option<()> {
     let holder = rng.pick(&numbers_where(table, Record::is_alive))?;
     let target = if kind == Damage::TargetAbove63 {
-        rng.byte(64, 255)
+        rng.byte_above(63)
     } else {
         rng.pick(&numbers_where(table, |record| record.status == UNBORN))?
     };
@@ -279,7 +279,7 @@ fn damage_rights(rng: &mut Rng, table: &mut Table, kind: Damage) -> Option<()> {
     let holder = rng.pick(&numbers_where(table, Record::is_alive))?;
     let mut targets = numbers_where(table, Record::is_born);
     let rights = if kind == Damage::RightsAbove15 {
-        rng.byte(16, 255)
+        rng.byte_above(ALL_RIGHTS)
     } else {
         // Target 0 with rights 0 would be an empty slot.
         targets.retain(|&n| n != 0);

@@ -1,0 +1,4 @@
+pub mod Cells
+pub mod Facts
+pub mod Scan
+pub mod Value
