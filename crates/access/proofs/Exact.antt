@@ -14,7 +14,8 @@ use Rattle.mask.proofs.Tests.{byCases, clash, and-true, and-intro, or-cases, or
 use Rattle.mask.proofs.Bits.{has-zero}
 use Rattle.table.specs.declared.Table.{Table}
 use Rattle.access.specs.Relation.{Right, rd, wr, wk, tx, Holding, Can, holds, self, reads, weak-rd, weak-wk, writes, sends, Influences, by-wr, by-tx, by-rd, by-wk, Influenced, first, more, takesPart, tableHolding}
-use Rattle.access.specs.Closure.{reached, takePart, holdsStrong, bond, link, linkBack, edgeOf, rowOf, influencedSet}
+use Rattle.access.specs.Closure.{reached, bothTakePart, holdsStrong, bond, link, linkBack, edgeOf, rowOf, influencedSet}
+use Rattle.access.specs.Exactness.{Low, AccessExact, InfluenceExact}
 use Rattle.access.proofs.Reach.{Path, stay, step, join, turn, reached-lt, reached-path, path-reached}
 
 -- every right but wk
@@ -26,33 +27,33 @@ isStrong tx = true
 
 module _ (h : Holding) where
   -- what an edge is ----------------------------------------------------------------
-  part-facts : (x y : ℕ) → takePart h x y ≡ true → (h .node x ≡ true) × (h .node y ≡ true)
-  unfolding takePart
+  part-facts : (x y : ℕ) → bothTakePart h x y ≡ true → (h .node x ≡ true) × (h .node y ≡ true)
+  unfolding bothTakePart
   part-facts x y e = and-true _ _ e
 
-  part-intro : (x y : ℕ) → h .node x ≡ true → h .node y ≡ true → takePart h x y ≡ true
-  unfolding takePart
+  part-intro : (x y : ℕ) → h .node x ≡ true → h .node y ≡ true → bothTakePart h x y ≡ true
+  unfolding bothTakePart
   part-intro x y p q = and-intro _ _ p q
 
-  bond-part : (x y : ℕ) → bond h x y ≡ true → takePart h x y ≡ true
+  bond-part : (x y : ℕ) → bond h x y ≡ true → bothTakePart h x y ≡ true
   unfolding bond
-  bond-part x y e = and-true (takePart h x y) _ e .0
+  bond-part x y e = and-true (bothTakePart h x y) _ e .0
 
-  link-part : (x y : ℕ) → link h x y ≡ true → takePart h x y ≡ true
+  link-part : (x y : ℕ) → link h x y ≡ true → bothTakePart h x y ≡ true
   unfolding link
-  link-part x y e = and-true (takePart h x y) _ e .0
+  link-part x y e = and-true (bothTakePart h x y) _ e .0
 
   bond-sym : (x y : ℕ) → bond h x y ≡ true → bond h y x ≡ true
   unfolding bond
   bond-sym x y e =
-      let p = and-true (takePart h x y) (holdsStrong h x y || holdsStrong h y x) e in
+      let p = and-true (bothTakePart h x y) (holdsStrong h x y || holdsStrong h y x) e in
       let q = part-facts x y (p .0) in
       and-intro _ _ (part-intro y x (q .1) (q .0)) (or-swap (holdsStrong h x y) (holdsStrong h y x) (p .1))
 
   bond-link : (x y : ℕ) → bond h x y ≡ true → link h x y ≡ true
   unfolding bond link
   bond-link x y e =
-      let p = and-true (takePart h x y) (holdsStrong h x y || holdsStrong h y x) e in
+      let p = and-true (bothTakePart h x y) (holdsStrong h x y || holdsStrong h y x) e in
       and-intro _ _ (p .0) (or-left (holdsStrong h x y || holdsStrong h y x) _ (p .1))
 
   strong-held : (b : Right) (x y : ℕ) → isStrong b ≡ true → h .held b x y ≡ true → holdsStrong h x y ≡ true
@@ -91,14 +92,14 @@ module _ (h : Holding) where
   bond-can : (b : Right) (x y : ℕ) → bond h x y ≡ true → Can h b x y
   unfolding bond
   bond-can b x y e =
-      let p = and-true (takePart h x y) (holdsStrong h x y || holdsStrong h y x) e in
+      let p = and-true (bothTakePart h x y) (holdsStrong h x y || holdsStrong h y x) e in
       let q = part-facts x y (p .0) in
       either-can b x y (q .0) (q .1) (p .1)
 
   link-can : (x y : ℕ) → linkBack h x y ≡ true → Can h wk x y
   unfolding link
   link-can x y e =
-      let p = and-true (takePart h y x) _ e in
+      let p = and-true (bothTakePart h y x) _ e in
       let q = part-facts y x (p .0) in
       or-cases (holdsStrong h y x || holdsStrong h x y) (h .held wk x y) (p .1)
       (λ a. either-can wk x y (q .1) (q .0) (or-swap (holdsStrong h y x) (holdsStrong h x y) a))
@@ -173,7 +174,7 @@ module _ (h : Holding) where
 
   -- the theorem -----------------------------------------------------------------------------
   module _ (low : (x : ℕ) → h .node x ≡ true → x < 64) where
-    part-low : (x y : ℕ) → takePart h x y ≡ true → (x < 64) × (y < 64)
+    part-low : (x y : ℕ) → bothTakePart h x y ≡ true → (x < 64) × (y < 64)
     part-low x y e = let q = part-facts x y e in (low x (q .0), low y (q .1))
 
     edge-low : (b : Right) (x y : ℕ) → edgeOf h b x y ≡ true → (x < 64) × (y < 64)
@@ -217,15 +218,16 @@ module _ (h : Holding) where
   unfolding influencedSet
   influenced-lt x = set-lt (h .node x) _ (reached-lt (link h) x)
 
--- for a table: row b of x has y exactly if x has b over y ------------------------------------------
-table-low : (t : Table) (x : ℕ) → takesPart t x ≡ true → x < 64
+-- the statements ---------------------------------------------------------------------------------------
+pub access-exact : AccessExact
+unfolding AccessExact
+access-exact h low b x y l = (row-can h low b x y l, can-row h low b x y)
+
+pub influence-exact : InfluenceExact
+unfolding InfluenceExact
+influence-exact h low x y l = (set-influenced h low x y l, influenced-set h low x y)
+
+-- the table's holding is one of numbers below 64
+pub table-low : (t : Table) → Low (tableHolding t)
 unfolding takesPart
 table-low t x e = ltb-true x 64 (and-true (ltb x 64) _ e .0)
-
-pub access-exact : (t : Table) (b : Right) (x y : ℕ) → y < 64
-    → (has y (rowOf (tableHolding t) b x) ≡ true → Can (tableHolding t) b x y) × (Can (tableHolding t) b x y → has y (rowOf (tableHolding t) b x) ≡ true)
-access-exact t b x y l = (row-can (tableHolding t) (table-low t) b x y l, can-row (tableHolding t) (table-low t) b x y)
-
-pub influence-exact : (t : Table) (x y : ℕ) → y < 64
-    → (has y (influencedSet (tableHolding t) x) ≡ true → Influenced (tableHolding t) x y) × (Influenced (tableHolding t) x y → has y (influencedSet (tableHolding t) x) ≡ true)
-influence-exact t x y l = (set-influenced (tableHolding t) (table-low t) x y l, influenced-set (tableHolding t) (table-low t) x y)

@@ -1,5 +1,5 @@
 -- The closure that computes potential access and influenced sets, by reachability in two graphs on the numbers below 64.
--- proofs/Exact.antt has the theorem that it is the least relation of Relation.antt, for every holding.
+-- Exactness.antt states that it is the least relation of Relation.antt, for holdings of numbers below 64.
 use mathlib.Core.Bool.{Bool, true, false, not, _&&_, _||_}
 use Prim.Native.Nat.{ℕ, zero, suc}
 use lib.Dec.{eqb}
@@ -27,8 +27,8 @@ mostRounds = 63
 unfoldable pub reached : (ℕ → ℕ → Bool) → ℕ → ℕ
 reached edge x = spread mostRounds edge (only x)
 
-unfoldable pub takePart : Holding → ℕ → ℕ → Bool
-takePart h x y = h .node x && h .node y
+unfoldable pub bothTakePart : Holding → ℕ → ℕ → Bool
+bothTakePart h x y = h .node x && h .node y
 
 -- x holds rd, wr or tx over y
 unfoldable pub holdsStrong : Holding → ℕ → ℕ → Bool
@@ -36,11 +36,11 @@ holdsStrong h x y = h .held rd x y || h .held wr x y || h .held tx x y
 
 -- a bond: rd, wr or tx, taken either way
 unfoldable pub bond : Holding → ℕ → ℕ → Bool
-bond h x y = takePart h x y && (holdsStrong h x y || holdsStrong h y x)
+bond h x y = bothTakePart h x y && (holdsStrong h x y || holdsStrong h y x)
 
 -- a link from x to y: a bond, or a wk taken from target to holder
 unfoldable pub link : Holding → ℕ → ℕ → Bool
-link h x y = takePart h x y && (holdsStrong h x y || holdsStrong h y x || h .held wk y x)
+link h x y = bothTakePart h x y && (holdsStrong h x y || holdsStrong h y x || h .held wk y x)
 
 -- the same link taken back, from holder to target
 abbrev pub linkBack : Holding → ℕ → ℕ → Bool

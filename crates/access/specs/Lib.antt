@@ -1,3 +1,4 @@
 pub mod Relation
 pub mod Closure
+pub mod Exactness
 pub mod Answers

@@ -16,10 +16,11 @@ use Rattle.table.specs.declared.Record.{Record}
 use Rattle.table.specs.declared.Table.{Table}
 use Rattle.table.specs.Cells.{recordAt, slotAt, isBorn}
 use Rattle.access.specs.Relation.{Right, rd, wr, wk, tx, Holding, Can, Influenced, takesPart, holdsIn}
-use Rattle.access.specs.Closure.{influencedSet, rowOf, link, takePart, holdsStrong, reached}
+use Rattle.access.specs.Closure.{influencedSet, rowOf, link, bothTakePart, holdsStrong, reached}
 use Rattle.access.proofs.Exact.{set-influenced, influenced-set, row-can, can-row}
 use Rattle.confinement.specs.StandIn.{standIn, testNode, testHeld, testHolding, boundOf}
 use Rattle.confinement.specs.Agreement.{AgreeOutside}
+use Rattle.confinement.specs.Exactness.{BoundExact, BoundBlind}
 
 module _ (t : Table) (members : ℕ) (list : List Capability) where
   node-low-by : (m : Bool) (x : ℕ) → elim m as (λ k. Bool) [ true ↦ ltb x 64 && eqb x (standIn members) | false ↦ takesPart t x ] ≡ true → x < 64
@@ -69,7 +70,7 @@ module _ (members : ℕ) (t u : Table) (same : AgreeOutside members t u) (list :
 
   -- no link of the one is missing in the other
   link-same : (x y : ℕ) → link (testHolding t members list) x y ≡ link (testHolding u members list) x y
-  unfolding link takePart holdsStrong
+  unfolding link bothTakePart holdsStrong
   link-same x y = byCases (testNode u members x && testNode u members y)
       (λ e. let p = and-true (testNode u members x) (testNode u members y) e in
       let lx = node-low u members list x (p .0) in
@@ -91,3 +92,12 @@ module _ (members : ℕ) (t u : Table) (same : AgreeOutside members t u) (list :
   unfolding boundOf influencedSet
   bound-same = ap₂ (λ (node : Bool) (edge : ℕ → ℕ → Bool). lessOf (elim node [ true ↦ reached edge (standIn members) | false ↦ 0 ]) members)
       (node-same (standIn members)) (fun-ext (λ x. fun-ext (λ y. link-same x y)))
+
+-- the statements ---------------------------------------------------------------------------------------
+pub bound-exact : BoundExact
+unfolding BoundExact
+bound-exact t members list y h = (bound-only t members list y h, λ p. bound-all t members list y h (p .0) (p .1))
+
+pub bound-blind : BoundBlind
+unfolding BoundBlind
+bound-blind members t u same list = bound-same members t u same list

@@ -2,3 +2,4 @@ pub mod StandIn
 pub mod Refusals
 pub mod Tests
 pub mod Agreement
+pub mod Exactness

@@ -40,10 +40,11 @@ badEntry t members e =
 unfoldable pub badList : Table → ℕ → List Capability → Bool
 badList t members list = ltb 8 (length list) || anyBelow (length list) (λ k. badEntry t members (entryAt list k))
 
--- each right of the capability is listed for its target
+-- the right is absent from the capability, or listed for its target
 abbrev pub rightListed : List Capability → Capability → Right → Bool
 rightListed list c b = not (has (bitAt b) (c .rights)) || listed list b (c .target)
 
+-- each right of the capability is listed for its target
 unfoldable pub allListed : List Capability → Capability → Bool
 allListed list c = rightListed list c rd && rightListed list c wr && rightListed list c wk && rightListed list c tx
 

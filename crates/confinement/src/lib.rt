@@ -1,4 +1,4 @@
-// The confinement test, document 01: what a newly loaded subsystem can ever touch.
+// The confinement test, document 01: which objects a newly loaded subsystem can ever influence.
 use table::Capability;
 
 // A list of `count` entries (target, rights). A count above 8 is a list too long; entries at or after the count are no

@@ -7,7 +7,7 @@ use Rattle.mask.specs.Sets.{bits, allBelow, anyBelow, lessOf}
 use Rattle.table.specs.Lists.{tabulate}
 use Rattle.table.specs.Soundness.{stockSound, soundAt, sound}
 use Rattle.access.specs.Relation.{takesPart, holdsIn}
-use Rattle.access.specs.Closure.{grow, spread, only, reached, takePart, holdsStrong, link, influencedSet}
+use Rattle.access.specs.Closure.{grow, spread, only, reached, bothTakePart, holdsStrong, link, influencedSet}
 use Rattle.confinement.specs.StandIn.{listed, lowestFrom, standIn, testNode, testHeld, boundOf}
 use Rattle.confinement.specs.Refusals.{badMembers, badEntry, badList, allListed, badHeld, memberHeld, verdictOf}
 use Rattle.confinement.specs.Tests.{testOf}
@@ -20,7 +20,7 @@ use Rattle.examples.specs.TableK.{K}
 use Rattle.examples.specs.Statement.{input}
 
 pub one : printedOf input ≡ 97 ∷ 99 ∷ 99 ∷ 101 ∷ 112 ∷ 116 ∷ 101 ∷ 100 ∷ 10 ∷ 48 ∷ 10 ∷ 49 ∷ 10 ∷ 50 ∷ 10 ∷ []
-unfolding K input bits allBelow anyBelow lessOf tabulate stockSound soundAt sound takesPart holdsIn grow spread only reached takePart holdsStrong link influencedSet listed lowestFrom standIn testNode testHeld boundOf badMembers badEntry badList allListed badHeld memberHeld verdictOf testOf bytesOf numberFrom slotsBytes recordBytes recordsBytes imageOf partOf recordFrom slotFrom tableFrom readRefusal readOf wrongLength membersOf listOf decimal numberLines refusedLine acceptedLines testLines loadedLines printedOf
+unfolding K input bits allBelow anyBelow lessOf tabulate stockSound soundAt sound takesPart holdsIn grow spread only reached bothTakePart holdsStrong link influencedSet listed lowestFrom standIn testNode testHeld boundOf badMembers badEntry badList allListed badHeld memberHeld verdictOf testOf bytesOf numberFrom slotsBytes recordBytes recordsBytes imageOf partOf recordFrom slotFrom tableFrom readRefusal readOf wrongLength membersOf listOf decimal numberLines refusedLine acceptedLines testLines loadedLines printedOf
 one = refl
 
 pub twelve : (readNumber (readOf (take 1922 (imageOf K)) .reply) ≡ 14) × (readNumber (readOf (set (imageOf K) 2 0) .reply) ≡ 15)

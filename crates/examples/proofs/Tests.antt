@@ -3,9 +3,10 @@ use mathlib.Core.Path.{_≡_, refl}
 use mathlib.Core.List.{List, [], _∷_}
 use Prim.Native.Nat.{ℕ, _^_}
 use Rattle.mask.specs.Sets.{bits, allBelow, anyBelow, lessOf}
+use Rattle.table.specs.declared.Capability.{Capability}
 use Rattle.table.specs.Soundness.{stockSound, soundAt, sound}
 use Rattle.access.specs.Relation.{takesPart, holdsIn}
-use Rattle.access.specs.Closure.{grow, spread, only, reached, takePart, holdsStrong, link, influencedSet}
+use Rattle.access.specs.Closure.{grow, spread, only, reached, bothTakePart, holdsStrong, link, influencedSet}
 use Rattle.confinement.specs.StandIn.{listed, lowestFrom, standIn, testNode, testHeld, boundOf}
 use Rattle.confinement.specs.Refusals.{verdictNumber, badMembers, badEntry, badList, allListed, badHeld, memberHeld, verdictOf}
 use Rattle.confinement.specs.Tests.{testOf}
@@ -13,7 +14,7 @@ use Rattle.examples.specs.TableK.{K, over, wrRight, wkRight}
 use Rattle.examples.specs.Statement.{the, weakK, watchedK}
 
 pub two : (verdictNumber (testOf weakK (the 5) (over 1 wkRight ∷ []) .verdict) ≡ 0) × (testOf weakK (the 5) (over 1 wkRight ∷ []) .bound ≡ 0)
-unfolding weakK K bits allBelow anyBelow lessOf stockSound soundAt sound takesPart holdsIn grow spread only reached takePart holdsStrong link influencedSet listed lowestFrom standIn testNode testHeld boundOf badMembers badEntry badList allListed badHeld memberHeld verdictOf testOf
+unfolding weakK K bits allBelow anyBelow lessOf stockSound soundAt sound takesPart holdsIn grow spread only reached bothTakePart holdsStrong link influencedSet listed lowestFrom standIn testNode testHeld boundOf badMembers badEntry badList allListed badHeld memberHeld verdictOf testOf
 two = (refl, refl)
 
 pub three : verdictNumber (testOf K (the 5) [] .verdict) ≡ 12
@@ -24,6 +25,6 @@ pub four : verdictNumber (testOf watchedK (the 5) (over 1 wrRight ∷ []) .verdi
 unfolding watchedK K bits allBelow anyBelow stockSound soundAt sound takesPart listed badMembers badEntry badList allListed badHeld memberHeld verdictOf testOf
 four = refl
 
-pub five : (verdictNumber (testOf K 0 (over 1 wrRight ∷ []) .verdict) ≡ 10) × (verdictNumber (testOf K (the 10) (over 1 wrRight ∷ []) .verdict) ≡ 10)
+pub five : (list : List Capability) → (verdictNumber (testOf K 0 list .verdict) ≡ 10) × (verdictNumber (testOf K (the 10) list .verdict) ≡ 10)
 unfolding K bits allBelow anyBelow stockSound soundAt sound badMembers verdictOf testOf
-five = (refl, refl)
+five list = (refl, refl)

@@ -1,12 +1,11 @@
 -- Document 01, "Table K and twelve examples": the twelve, word for word, as one statement. A field is an example.
 use mathlib.Core.Path.{_≡_}
-use mathlib.Core.Bool.{true}
 use mathlib.Core.List.{List, [], _∷_, _++_}
-use Prim.Native.Nat.{ℕ, _+_, _^_}
+use Prim.Native.Nat.{ℕ, _^_}
 use lib.ListN.{take, set}
 use Rattle.table.specs.declared.Capability.{Capability}
 use Rattle.table.specs.declared.Table.{Table}
-use Rattle.table.specs.Cells.{recordAt, stockAt, putSlot, emptySlot, unbornTable}
+use Rattle.table.specs.Cells.{recordAt, stockAt, putSlot, emptySlot}
 use Rattle.requests.specs.Asks.{Ask, read, write, allocate}
 use Rattle.requests.specs.Replies.{number}
 use Rattle.requests.specs.Refusals.{refusal}
@@ -19,7 +18,7 @@ use Rattle.image.specs.Numbers.{bytesOf}
 use Rattle.image.specs.Layout.{imageOf}
 use Rattle.image.specs.Images.{readOf, readNumber}
 use Rattle.report.specs.Printed.{printedOf}
-use Rattle.examples.specs.TableK.{K, over, rdRight, wrRight, wkRight}
+use Rattle.examples.specs.TableK.{K, over, wrRight, wkRight}
 
 -- a set of one number
 abbrev pub the : ℕ → ℕ
@@ -37,7 +36,7 @@ weakK = putSlot K 5 0 (over 1 wkRight)
 unfoldable pub watchedK : Table
 watchedK = putSlot K 0 1 (over 5 wkRight)
 
--- example 6: "5 allocates 10, kind 1, part {11}, slot 7, no pairs"
+-- examples 6 and 7: "5 allocates 10, kind 1, part {11}, slot 7, no pairs", or another number
 abbrev pub making : ℕ → Ask
 making n = allocate 5 n 1 (the 11) 7 []
 
@@ -48,11 +47,13 @@ pub record Twelve : Type 0 where
   pub two : (verdictNumber (testOf weakK (the 5) (over 1 wkRight ∷ []) .verdict) ≡ 0) × (testOf weakK (the 5) (over 1 wkRight ∷ []) .bound ≡ 0)
   pub three : verdictNumber (testOf K (the 5) [] .verdict) ≡ 12
   pub four : verdictNumber (testOf watchedK (the 5) (over 1 wrRight ∷ []) .verdict) ≡ 13
-  pub five : (verdictNumber (testOf K 0 (over 1 wrRight ∷ []) .verdict) ≡ 10) × (verdictNumber (testOf K (the 10) (over 1 wrRight ∷ []) .verdict) ≡ 10)
+  -- whatever is listed
+  pub five : (list : List Capability) → (verdictNumber (testOf K 0 list .verdict) ≡ 10) × (verdictNumber (testOf K (the 10) list .verdict) ≡ 10)
   pub six : (number (stepOf K (making 10) .reply) ≡ 0) × (stockAt (stepOf K (making 10) .table) 10 ≡ the 11) × (stockAt (stepOf K (making 10) .table) 5 ≡ 0)
   pub seven : number (refusal K (making 12)) ≡ 9
   pub eight : (target : ℕ) → (weaken (over target 1) ≡ over target 4) × (weaken (over target 15) ≡ over target 4) × (weaken (over target 10) ≡ emptySlot)
   pub nine : (recordAt (after K (write 4 0 7)) 3 .word ≡ 7) × (number (refusal K (write 2 0 7)) ≡ 6)
+  -- asked by a read
   pub ten : (number (refusal K (read 1 8)) ≡ 2) × (number (refusal K (read 1 0)) ≡ 3) × (number (refusal K (read 0 5)) ≡ 4)
   -- all four; wk alone; none: in the least relation itself
   pub eleven : ((b : Right) → Can (tableHolding K) b 5 0)

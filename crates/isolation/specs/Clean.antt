@@ -1,6 +1,6 @@
 -- Document 01, "Two runs": the clean objects along a run, the requests that come from them, and the replies that these got.
 -- "Whether a request comes from a clean object goes by its actor when the request is made; an unborn number is nobody, and so is
--- an actor above 63": neither is ever clean.
+-- an actor above 63": so neither is ever clean (proofs/Invariant.antt).
 use mathlib.Core.Bool.{Bool, true, false, not, _&&_, _||_}
 use mathlib.Core.List.{List, [], _∷_}
 use Prim.Native.Nat.{ℕ}

@@ -1,6 +1,6 @@
--- Document 01, demand 3 and "Two runs", as one statement about two whole lists of requests: two runs from tables that agree
--- outside an accepted set of members; "whatever everybody else asks, the clean objects, their records and their replies are the
--- same".
+-- Demand 3 with document 01, "Two runs", as one statement about two whole lists of requests: two runs from tables that agree
+-- outside an accepted set of members. Whatever everybody else asks, the clean objects, their records and the replies to their
+-- requests are the same.
 use mathlib.Core.Path.{_≡_}
 use mathlib.Core.Bool.{true}
 use mathlib.Core.List.{List}
@@ -26,20 +26,22 @@ pub record Alike (t u : Table) (C D : Clean) (ps qs : List Ask) : Type 0 where
   pub cells : AgreeOn (cleanAtEnd t C ps) (runTable t ps) (runTable u qs)
   pub replies : cleanReplies t C ps ≡ cleanReplies u D qs
 
--- two tables that agree on every non-member; the same members and list, accepted in both
-pub record Tested (t u : Table) (members : ℕ) (list : List Capability) : Type 0 where
+-- two tables that agree on every non-member; the same members and list, accepted in both. `IsTable` says no more than that the
+-- two are values of the table type
+pub record BothAccepted (t u : Table) (members : ℕ) (list : List Capability) : Type 0 where
   pub left : IsTable t
   pub right : IsTable u
   pub accepted-left : verdictNumber (verdictOf t members list) ≡ 0
   pub accepted-right : verdictNumber (verdictOf u members list) ≡ 0
   pub agree : AgreeOutside members t u
 
--- demand 3
+-- what the claim says of two such tables: the same bound, and of any two runs that ask the same of clean objects
 pub record Same (t u : Table) (members : ℕ) (list : List Capability) : Type 0 where
   pub bound : boundOf t members list ≡ boundOf u members list
   pub runs : (ps qs : List Ask)
       → cleanRequests t (cleanAtStart t members list) ps ≡ cleanRequests u (cleanAtStart u members list) qs
       → Alike t u (cleanAtStart t members list) (cleanAtStart u members list) ps qs
 
+-- demand 3
 unfoldable pub TwoRuns : Type 0
-TwoRuns = (t u : Table) (members : ℕ) (list : List Capability) → Tested t u members list → Same t u members list
+TwoRuns = (t u : Table) (members : ℕ) (list : List Capability) → BothAccepted t u members list → Same t u members list

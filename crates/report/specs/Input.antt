@@ -1,9 +1,9 @@
 -- Document 01: "The program `confine` reads from standard input an image, 8 bytes of members, a count byte, and 2 bytes (target,
 -- rights) an entry: 1,932 plus 2 times the count bytes, nothing more".
-use mathlib.Core.Bool.{Bool, not, _||_}
+use mathlib.Core.Bool.{Bool, not}
 use mathlib.Core.List.{List}
 use Prim.Native.Nat.{ℕ, _+_, _*_}
-use lib.Dec.{ltb, eqb}
+use lib.Dec.{eqb}
 use lib.ListN.{length, take, drop}
 use Rattle.table.specs.declared.Capability.{Capability}
 use Rattle.table.specs.Lists.{tabulate}
@@ -17,9 +17,9 @@ fixedLength = imageLength + 9
 abbrev pub countOf : List ℕ → ℕ
 countOf input = byteAt input (imageLength + 8)
 
--- 17: "input of wrong length"
+-- 17: "input of wrong length"; an input with no count byte counts none, and is too short for that
 unfoldable pub wrongLength : List ℕ → Bool
-wrongLength input = ltb (length input) fixedLength || not (eqb (length input) (fixedLength + 2 * countOf input))
+wrongLength input = not (eqb (length input) (fixedLength + 2 * countOf input))
 
 abbrev pub imagePart : List ℕ → List ℕ
 imagePart input = take imageLength input

@@ -9,7 +9,8 @@ use Rattle.requests.specs.declared.PairList.{PairList}
 use Rattle.requests.specs.declared.Request.{Request}
 use Rattle.requests.specs.declared.Request.the-variants.{Read, Write, Fetch, Store, Revoke, Send, Allocate, Destroy, Unknown}
 
--- codes 1 to 8 in turn; `unknown` is any other code
+-- codes 1 to 8 in turn; `unknown` is a code with no such request, and who asked. The code's values keep every number within its
+-- bits; the definitions take any number
 pub data Ask : Type 0 where
   read : (actor t : ℕ) → Ask
   write : (actor t word : ℕ) → Ask
@@ -20,6 +21,18 @@ pub data Ask : Type 0 where
   allocate : (actor n kind part i : ℕ) (list : List Pair) → Ask
   destroy : (actor t : ℕ) → Ask
   unknown : (code actor : ℕ) → Ask
+
+-- the column "Code"
+abbrev pub codeOf : Ask → ℕ
+codeOf (read a t) = 1
+codeOf (write a t w) = 2
+codeOf (fetch a t i j) = 3
+codeOf (store a t i j) = 4
+codeOf (revoke a t j) = 5
+codeOf (send a t w l y) = 6
+codeOf (allocate a n k p i l) = 7
+codeOf (destroy a t) = 8
+codeOf (unknown c a) = c
 
 abbrev pub actorOf : Ask → ℕ
 actorOf (read a t) = a

@@ -1,4 +1,5 @@
--- Document 01, "The eight requests", the column "Effect", read only where no refusal is met. Each effect is a row of puts.
+-- Document 01, "The eight requests", the column "Effect", read only where no refusal is met. Each effect is puts of
+-- records and slots, one after the other.
 use mathlib.Core.Bool.{Bool, true, false}
 use mathlib.Core.List.{List, [], _∷_}
 use Prim.Native.Nat.{ℕ, zero, suc}
@@ -9,18 +10,20 @@ use Rattle.table.specs.declared.Record.{Record}
 use Rattle.table.specs.declared.Table.{Table}
 use Rattle.table.specs.Cells.{emptySlot, recordAt, slotAt, stockAt, putRecord, putSlot, hasRd}
 use Rattle.requests.specs.declared.Pair.{Pair}
+use Rattle.requests.specs.declared.Need.the-variants.{ReadOrWeak}
 use Rattle.requests.specs.Asks.{Ask, read, write, fetch, store, revoke, send, allocate, destroy, unknown}
-use Rattle.requests.specs.Refusals.{mayRead, targetOf, targetRecord, rightsOf}
+use Rattle.requests.specs.Refusals.{needMet, targetOf, targetRecord, rightsOf}
 
 -- "Weakening gives wk if rd or wk was present; otherwise the copy is empty"
 unfoldable pub weaken : Capability → Capability
-weaken c = elim (mayRead (c .rights)) [ true ↦ record { target = c .target; rights = 4 } | false ↦ emptySlot ]
+weaken c = elim (needMet ReadOrWeak (c .rights)) [ true ↦ record { target = c .target; rights = 4 } | false ↦ emptySlot ]
 
 -- what a fetch through a slot with these rights takes: "weakened if rd is absent"
 unfoldable pub fetched : ℕ → Capability → Capability
 fetched rights c = elim (hasRd rights) [ true ↦ c | false ↦ weaken c ]
 
--- what a destination slot holds after a copy, from what it held: "Copying an empty slot empties the destination"
+-- what a destination slot holds after a copy, of what it held and the copy: "Copying an empty slot empties the destination". What
+-- it held plays no part; the name is where that rule stands
 unfoldable pub landed : Capability → Capability → Capability
 landed old copy = copy
 

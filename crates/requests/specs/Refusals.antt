@@ -12,6 +12,8 @@ use Rattle.table.specs.declared.Table.{Table}
 use Rattle.table.specs.Cells.{recordAt, slotAt, isAlive, isDead, isActive, isEmpty, hasRd, hasWr, hasWk, hasTx}
 use Rattle.table.specs.Soundness.{sound}
 use Rattle.requests.specs.declared.Pair.{Pair}
+use Rattle.requests.specs.declared.Need.{Need}
+use Rattle.requests.specs.declared.Need.the-variants.{ReadOrWeak, Write, Send}
 use Rattle.requests.specs.declared.Reply.{Reply}
 use Rattle.requests.specs.declared.Reply.the-variants.{Done, TableUnsound, FieldInvalid, ActorUnfit, SlotEmpty, TargetDead, RightAbsent, TargetPassive, ActorItself, NotInStock}
 use Rattle.requests.specs.Asks.{Ask, read, write, fetch, store, revoke, send, allocate, destroy, unknown, actorOf}
@@ -50,9 +52,11 @@ badField (unknown c a) = true
 abbrev pub unfit : Record → Bool
 unfit actor = not (isAlive actor) || not (isActive actor)
 
--- "rd or wk"
-unfoldable pub mayRead : ℕ → Bool
-mayRead rights = hasRd rights || hasWk rights
+-- whether the rights have what a request needs: "rd or wk", "wr", "tx"
+unfoldable pub needMet : Need → ℕ → Bool
+needMet ReadOrWeak rights = hasRd rights || hasWk rights
+needMet Write rights = hasWr rights
+needMet Send rights = hasTx rights
 
 -- rows 4 to 6, by the slot that is used, its target's record, and whether the slot has the needed right
 unfoldable pub through : Capability → Record → Bool → Reply → Reply
@@ -73,20 +77,21 @@ targetRecord tb a t = recordAt tb (targetOf tb a t)
 abbrev pub rightsOf : Table → ℕ → ℕ → ℕ
 rightsOf tb a t = slotAt tb a t .rights
 
+-- rows 4 to 6 for the actor's slot t
+unfoldable pub throughSlot : Table → ℕ → ℕ → Need → Reply → Reply
+throughSlot tb a t need rest = through (slotAt tb a t) (targetRecord tb a t) (needMet need (rightsOf tb a t)) rest
+
 -- rows 4 to 9, with the right that each request needs
 unfoldable pub laterRows : Table → Ask → Reply
-laterRows tb (read a t) = through (slotAt tb a t) (targetRecord tb a t) (mayRead (rightsOf tb a t)) Done
-laterRows tb (write a t w) = through (slotAt tb a t) (targetRecord tb a t) (hasWr (rightsOf tb a t)) Done
-laterRows tb (fetch a t i j) = through (slotAt tb a t) (targetRecord tb a t) (mayRead (rightsOf tb a t)) Done
-laterRows tb (store a t i j) = through (slotAt tb a t) (targetRecord tb a t) (hasWr (rightsOf tb a t)) Done
-laterRows tb (revoke a t j) = through (slotAt tb a t) (targetRecord tb a t) (hasWr (rightsOf tb a t)) Done
+laterRows tb (read a t) = throughSlot tb a t ReadOrWeak Done
+laterRows tb (write a t w) = throughSlot tb a t Write Done
+laterRows tb (fetch a t i j) = throughSlot tb a t ReadOrWeak Done
+laterRows tb (store a t i j) = throughSlot tb a t Write Done
+laterRows tb (revoke a t j) = throughSlot tb a t Write Done
 laterRows tb (send a t w l y) =
-    through (slotAt tb a t) (targetRecord tb a t) (hasTx (rightsOf tb a t))
-    (refuse (not (isActive (targetRecord tb a t))) TargetPassive Done)
+    throughSlot tb a t Send (refuse (not (isActive (targetRecord tb a t))) TargetPassive Done)
 laterRows tb (allocate a n k p i l) = refuse (notInStock n p (recordAt tb a .stock)) NotInStock Done
-laterRows tb (destroy a t) =
-    through (slotAt tb a t) (targetRecord tb a t) (hasWr (rightsOf tb a t))
-    (refuse (eqb (targetOf tb a t) a) ActorItself Done)
+laterRows tb (destroy a t) = throughSlot tb a t Write (refuse (eqb (targetOf tb a t) a) ActorItself Done)
 laterRows tb (unknown c a) = FieldInvalid
 
 -- rows 1 to 9

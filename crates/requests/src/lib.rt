@@ -67,6 +67,13 @@ pub enum Request {
     },
 }
 
+// The right that a request needs on the slot that it uses.
+pub enum Need {
+    ReadOrWeak,
+    Write,
+    Send,
+}
+
 // Done, or why a request was refused.
 pub enum Reply {
     Done,

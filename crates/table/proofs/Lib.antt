@@ -1,4 +1,6 @@
+pub mod Lists
 pub mod Cells
 pub mod Facts
 pub mod Scan
 pub mod Value
+pub mod Unborn

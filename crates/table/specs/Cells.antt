@@ -1,5 +1,6 @@
 -- Document 01, "Objects, slots, rights": what stands where in a table, and the two ways in which a request changes it.
--- Objects are numbered 0 to 63, slots 0 to 7. A number past the end reads as unborn, with empty slots.
+-- Objects are numbered 0 to 63, slots 0 to 7. An object number past the end reads as unborn, with empty slots; no definition
+-- reads or puts a slot above 7 but after the check that refuses it.
 use mathlib.Core.Path.{_≡_}
 use mathlib.Core.Bool.{Bool, not, _&&_, _||_}
 use Prim.Native.Nat.{ℕ, _+_, _*_, _^_, _<_}

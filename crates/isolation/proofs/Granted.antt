@@ -1,0 +1,133 @@
+-- What is known of a request that was answered 0: each refusal row denied, as a fact. Assumes nothing.
+use mathlib.Core.Path.{_≡_, refl, sym, _∙_, ap}
+use mathlib.Core.Logic.{_≢_}
+use mathlib.Core.Bool.{Bool, true, false, not, _&&_, _||_, true≢false, false≢true}
+use mathlib.Core.List.{List, [], _∷_}
+use Prim.Native.Nat.{ℕ, _≤_, _<_}
+use native.Mathlib.Omega.{arith}
+use lib.Dec.{ltb, eqb}
+use lib.ListN.{length}
+use borrow.Author.Tests.{ltb-true, ltb-false, eqb-true, eqb-false, eq-eqb, not-true, not-false}
+use Rattle.mask.specs.Sets.{has, excluding, subsetOf}
+use Rattle.mask.proofs.Tests.{byCases, byEq, clash, and-true, and-intro, or-none}
+use Rattle.mask.proofs.Bits.{has-excluding, subset-at}
+use Rattle.table.specs.declared.Capability.{Capability}
+use Rattle.table.specs.declared.Record.{Record}
+use Rattle.table.specs.declared.Table.{Table}
+use Rattle.table.specs.Cells.{recordAt, slotAt, statusAt, isAlive, isDead, isActive, isEmpty}
+use Rattle.table.specs.Soundness.{sound}
+use Rattle.table.proofs.Cells.{Sized, record-high}
+use Rattle.table.proofs.Facts.{SlotFine, Sound}
+use Rattle.requests.specs.declared.Pair.{Pair}
+use Rattle.requests.specs.declared.Need.{Need}
+use Rattle.requests.specs.declared.Reply.{Reply}
+use Rattle.requests.specs.declared.Reply.the-variants.{Done, TableUnsound, FieldInvalid, ActorUnfit, SlotEmpty, TargetDead, RightAbsent}
+use Rattle.requests.specs.Asks.{Ask, actorOf}
+use Rattle.requests.specs.Replies.{isDone}
+use Rattle.requests.specs.Refusals.{refuse, noSlot, noObject, badSlots, badList, badField, unfit, needMet, through, throughSlot, notInStock, targetOf, rightsOf, laterRows, refusal}
+
+-- a row that did not turn the request down
+pub passed : (cause : Bool) (why rest : Reply) → isDone why ≡ false → isDone (refuse cause why rest) ≡ true → (cause ≡ false) × (isDone rest ≡ true)
+passed true why rest f e = clash e f
+passed false why rest f e = (refl, e)
+
+pub slot-low : (j : ℕ) → noSlot j ≡ false → j < 8
+slot-low j e = omega (arith, ltb-false 7 j e)
+
+pub object-low : (n : ℕ) → noObject n ≡ false → n < 64
+object-low n e = omega (arith, ltb-false 63 n e)
+
+-- rows 1 to 3
+pub record Entered (t : Table) (q : Ask) : Type 0 where
+  pub fields : badField q ≡ false
+  pub alive : statusAt t (actorOf q) ≡ 1
+  pub later : isDone (laterRows t q) ≡ true
+
+pub entered : (t : Table) (q : Ask) → isDone (refusal t q) ≡ true → Entered t q
+unfolding refusal
+entered t q e =
+    let r1 = passed (not (sound t)) TableUnsound _ refl e in
+    let r2 = passed (badField q) FieldInvalid _ refl (r1 .1) in
+    let r3 = passed (unfit (recordAt t (actorOf q))) ActorUnfit _ refl (r2 .1) in
+    let a = or-none (not (isAlive (recordAt t (actorOf q)))) (not (isActive (recordAt t (actorOf q)))) (r3 .0) in
+    record { fields = r2 .0; alive = eqb-true _ 1 (not-false _ (a .0)); later = r3 .1 }
+
+-- a request through a slot --------------------------------------------------------
+pub record Granted (t : Table) (a s : ℕ) (need : Need) : Type 0 where
+  pub actor : a < 64
+  pub slot : s < 8
+  pub alive : statusAt t a ≡ 1
+  pub filled : 1 ≤ slotAt t a s .rights
+  pub target : targetOf t a s < 64
+  pub there : statusAt t (targetOf t a s) ≡ 1
+  pub right : needMet need (rightsOf t a s) ≡ true
+
+born-low : (t : Table) (n : ℕ) → Sized t → 1 ≤ statusAt t n → n < 64
+born-low t n z h = byCases (ltb n 64) (λ e. ltb-true n 64 e)
+    (λ e. absurd (omega (arith, ap (λ (r : Record). r .status) (record-high t n z (ltb-false n 64 e)))))
+
+pub filled-slot : (a b : ℕ) (c : Capability) → SlotFine a b c → isEmpty c ≡ false → 1 ≤ c .rights
+filled-slot a b c f e = byEq (c .rights) 0
+    (λ q. clash (and-intro (eqb (c .target) 0) (eqb (c .rights) 0) (eq-eqb _ 0 (f .blank q)) (eq-eqb _ 0 q)) e)
+    (λ q. omega arith)
+
+pub granted : (t : Table) (a s : ℕ) (need : Need) (rest : Reply) → Sound t → (noObject a || noSlot s) ≡ false → statusAt t a ≡ 1
+    → isDone (throughSlot t a s need rest) ≡ true → (Granted t a s need) × (isDone rest ≡ true)
+unfolding throughSlot through
+granted t a s need rest d f l e =
+    let c = slotAt t a s in
+    let r4 = passed (isEmpty c) SlotEmpty _ refl e in
+    let r5 = passed (isDead (recordAt t (c .target))) TargetDead _ refl (r4 .1) in
+    let r6 = passed (not (needMet need (c .rights))) RightAbsent rest refl (r5 .1) in
+    let p = or-none (noObject a) (noSlot s) f in
+    let hs = slot-low s (p .1) in
+    let g = d .slots a s hs in
+    let h = filled-slot _ _ c g (r4 .0) in
+    let b = g .named h in (
+      record {
+        actor = object-low a (p .0);
+        slot = hs;
+        alive = l;
+        filled = h;
+        target = born-low t (c .target) (d .size) b;
+        there = near (statusAt t (c .target)) b (d .records (c .target) .low) (eqb-false (statusAt t (c .target)) 2 (r5 .0));
+        right = not-false _ (r6 .0);
+      },
+      r6 .1,
+    )
+  where
+    near : (k : ℕ) → 1 ≤ k → k ≤ 2 → k ≢ 2 → k ≡ 1
+    near k p q n = omega arith
+
+-- a pair list --------------------------------------------------------------------------
+pub data Ranged : List Pair → Type 0 where
+  none : Ranged []
+  more : {p : Pair} {ps : List Pair} → p .from < 8 → p .to < 8 → Ranged ps → Ranged (p ∷ ps)
+
+slots-ranged : (ps : List Pair) → badSlots ps ≡ false → Ranged ps
+unfolding badSlots
+slots-ranged [] e = none
+slots-ranged (p ∷ ps) e =
+    let a = or-none (noSlot (p .from) || noSlot (p .to)) (badSlots ps) e in
+    let b = or-none (noSlot (p .from)) (noSlot (p .to)) (a .0) in
+    more (slot-low _ (b .0)) (slot-low _ (b .1)) (slots-ranged ps (a .1))
+
+pub ranged : (ps : List Pair) → badList ps ≡ false → Ranged ps
+unfolding badList
+ranged ps e = slots-ranged ps (or-none (ltb 4 (length ps)) (badSlots ps) e .1)
+
+-- a stock ---------------------------------------------------------------------------------
+pub record Within (n part stock : ℕ) : Type 0 where
+  pub held : has n stock ≡ true
+  pub inside : (k : ℕ) → k < 64 → has k part ≡ true → (has k stock ≡ true) × (k ≢ n)
+
+pub within : (n part stock : ℕ) → notInStock n part stock ≡ false → Within n part stock
+unfolding notInStock
+within n part stock e =
+    let p = or-none (not (has n stock)) (not (subsetOf part (excluding n stock))) e in
+    record {
+      held = not-false _ (p .0);
+      inside = λ k hk h.
+          let q = and-true (has k stock) (not (eqb k n)) (sym (has-excluding k n stock hk) ∙ subset-at part (excluding n stock) k (not-false _ (p .1)) hk h) in
+          (q .0, eqb-false k n (not-true _ (q .1)));
+    }

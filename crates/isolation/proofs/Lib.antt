@@ -1,0 +1,15 @@
+pub mod Invariant
+pub mod Granted
+pub mod Copies
+pub mod Sides
+pub mod Slots
+pub mod Sends
+pub mod Allocates
+pub mod Destroys
+pub mod Others
+pub mod RunSound
+pub mod CleanStep
+pub mod Runs
+pub mod Start
+pub mod TwoRuns
+pub mod Witness

@@ -1,0 +1,70 @@
+-- On which side of the clean objects a request's target stands, which records fit, and what a fetch brings. Assumes nothing.
+use mathlib.Core.Path.{_≡_, refl, sym, _∙_, ap}
+use mathlib.Core.Logic.{_≢_}
+use mathlib.Core.Bool.{Bool, true, false, _||_, false≢true}
+use Prim.Native.Nat.{ℕ, _≤_, _<_}
+use native.Mathlib.Omega.{arith}
+use Rattle.mask.specs.Sets.{has}
+use Rattle.mask.proofs.Tests.{byCases, byEq, clash}
+use Rattle.table.specs.declared.Capability.{Capability}
+use Rattle.table.specs.declared.Record.{Record}
+use Rattle.table.specs.declared.Table.{Table}
+use Rattle.table.specs.Cells.{emptySlot, recordAt, slotAt, statusAt, stockAt, hasRd}
+use Rattle.table.proofs.Facts.{Sound}
+use Rattle.requests.specs.declared.Need.{Need}
+use Rattle.requests.specs.declared.Need.the-variants.{ReadOrWeak, Write, Send}
+use Rattle.requests.specs.Refusals.{needMet, targetOf, rightsOf}
+use Rattle.requests.specs.Effects.{weaken, fetched, withWord}
+use Rattle.isolation.specs.Clean.{Clean}
+use Rattle.isolation.proofs.Invariant.{wkAlone, Isolated, RecordFits}
+use Rattle.isolation.proofs.Granted.{Granted}
+
+-- wk alone reads, and neither writes nor sends
+pub weak-no-write : needMet Write wkAlone ≡ false
+unfolding needMet
+weak-no-write = refl
+
+pub weak-no-send : needMet Send wkAlone ≡ false
+unfolding needMet
+weak-no-send = refl
+
+-- where the target is ---------------------------------------------------------------
+module _ (t : Table) (C : Clean) (v : Isolated t C) (a s : ℕ) (need : Need) (g : Granted t a s need) where
+  pub clean-target : C a ≡ true → C (targetOf t a s) ≡ true
+  clean-target c = v .inside a s (g .slot) c (g .filled)
+
+  -- what wk alone does not allow reaches no clean object from outside
+  pub dirty-target : needMet need wkAlone ≡ false → C a ≡ false → C (targetOf t a s) ≡ false
+  dirty-target lack c = byCases (C (targetOf t a s)) (λ w. clash (g .right) (rw (v .outside a s (g .slot) c (g .filled) w) lack)) (λ w. w)
+
+  pub same-side : needMet need wkAlone ≡ false → C (targetOf t a s) ≡ C a
+  same-side lack = byCases (C a) (λ c. clean-target c ∙ sym c) (λ c. dirty-target lack c ∙ sym c)
+
+-- what a fetch takes: the capability itself, wk alone over the same target, or nothing
+pub fetched-elim : (P : Capability → Type 0) (r : ℕ) (c : Capability) → (hasRd r ≡ true → P c) → (hasRd r ≡ false → 1 ≤ c .rights → P (record { target = c .target; rights = 4 })) → P emptySlot → P (fetched r c)
+unfolding fetched weaken needMet
+fetched-elim P r c f g h = byCases (hasRd r)
+    (λ e. rw (e, fetched) (f e))
+    (λ e. rw (e, fetched) (byCases (needMet ReadOrWeak (c .rights))
+    (λ q. rw (q, weaken) (g e (byEq (c .rights) 0 (λ z. absurd (false≢true (rw z at q))) (λ z. omega arith))))
+    (λ q. rw (q, weaken) h)))
+
+-- records that fit --------------------------------------------------------------------
+pub fits-live : (t : Table) (n : ℕ) (r : Record) → Sound t → n < 64 → statusAt t n ≡ 1 → r .status ≡ 1 → r .kind ≤ 1
+    → ((k : ℕ) → k < 64 → has k (r .stock) ≡ true → (statusAt t k ≡ 0) × ((m : ℕ) → m ≢ n → has k (stockAt t m) ≡ false))
+    → RecordFits t n r
+fits-live t n r d hn l p q f = record {
+  fine = record { low = omega arith; sort = q; still = λ h. absurd (h p); plain = λ h. absurd (omega arith) };
+  keep = λ h. omega arith;
+  idle = λ h. absurd (h p);
+  free = λ k hk h. (f k hk h .0, λ e. absurd (omega (arith, f k hk h .0, rw (← e) at l)));
+  alone = λ m k hk hm h. f k hk h .1 m hm;
+  unlisted = λ m hm. byCases (has n (stockAt t m)) (λ h. absurd (omega (arith, d .stocks m n hn h))) (λ h. h);
+}
+
+-- the stock that n has already
+pub stock-kept : (t : Table) (n : ℕ) → Sound t → (k : ℕ) → k < 64 → has k (stockAt t n) ≡ true → (statusAt t k ≡ 0) × ((m : ℕ) → m ≢ n → has k (stockAt t m) ≡ false)
+stock-kept t n d k hk h = (d .stocks n k hk h, λ m hm. byCases (has k (stockAt t m)) (λ q. absurd (hm (d .apart m n k hk q h))) (λ q. q))
+
+pub fits-word : (t : Table) (n w : ℕ) → Sound t → n < 64 → statusAt t n ≡ 1 → RecordFits t n (withWord (recordAt t n) w)
+fits-word t n w d hn l = fits-live t n _ d hn l l (d .records n .sort) (stock-kept t n d)
