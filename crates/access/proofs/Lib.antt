@@ -1,2 +1,6 @@
 pub mod Reach
 pub mod Exact
+pub mod Feeds
+pub mod Saturation
+pub mod Marks
+pub mod TableWords

@@ -1,9 +1,13 @@
 -- What potential access answers: "The relation is answered whole, for all 64 numbers"; for a table that is not sound the
 -- number 1 and no rights.
-use mathlib.Core.Bool.{Bool, true, false}
+use mathlib.Core.Bool.{Bool, true, false, not, _&&_}
+use mathlib.Core.List.{List}
 use Prim.Native.Nat.{ℕ, zero, suc, _/_, _%_}
-use lib.ListN.{replicate}
+use lib.ListN.{getD, replicate}
+use Rattle.mask.specs.Sets.{has, bits}
+use Rattle.table.specs.declared.Record.{Record}
 use Rattle.table.specs.declared.Table.{Table}
+use Rattle.table.specs.Cells.{isBorn, unbornRecord}
 use Rattle.table.specs.Soundness.{sound}
 use Rattle.table.specs.Lists.{tabulate}
 use Rattle.access.specs.declared.AccessReply.{AccessReply}
@@ -15,6 +19,10 @@ use Rattle.access.specs.Closure.{rowOf}
 abbrev pub accessNumber : AccessReply → ℕ
 accessNumber Done = 0
 accessNumber TableUnsound = 1
+
+-- the born numbers outside a set
+unfoldable pub bornOutside : List Record → ℕ → ℕ
+bornOutside records set = bits 64 (λ n. isBorn (getD records n unbornRecord) && not (has n set))
 
 -- the right whose rows stand at 64 times its place
 abbrev pub rightAt : ℕ → Right

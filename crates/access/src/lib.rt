@@ -1,4 +1,12 @@
-// Potential access, document 01: who can come to have which right over whom, answered whole for all 64 numbers.
+// Potential access, document 01: who can come to have which right over whom, answered whole for all 64 numbers. It is worked by
+// the rules themselves, until they add nothing.
+use table::Table;
+
+pub mod rules; // rules.rt: the rules, run until nothing is added
+pub mod start; // start.rt: the words that the rules start from
+
+ghost use mathlib.Core.Path.{_≡_};
+ghost use Rattle.access.specs.Answers.{accessOf};
 
 // Done, or the table is not sound.
 pub enum AccessReply {
@@ -11,4 +19,24 @@ pub enum AccessReply {
 pub struct Access {
     pub reply: AccessReply,
     pub rows: [u64; 256],
+}
+
+// The whole relation of a sound table; for any other the number 1 and no rights.
+pub fn potential_access(t: Table) -> Access
+    ensures { λ r. ⌜ r ≡ accessOf t ⌝ }
+{
+    if !table::is_sound(t) {
+        return Access {
+            reply: AccessReply::TableUnsound,
+            rows: [0; 256],
+        };
+    }
+    let records = t.records;
+    let slots = t.slots;
+    let born = start::born_outside(records, 0);
+    let words = rules::saturate(start::held_words(slots, born, born));
+    Access {
+        reply: AccessReply::Done,
+        rows: words,
+    }
 }

@@ -60,7 +60,7 @@ has-not k b hk hb =
     ∙ flip-digit (b / 2 ^ k % 2) ((2 ^ 64 - 1) / 2 ^ k % 2) (mod-lt _ two-pos) (mod-lt _ two-pos) (has-ones k hk)
 
 -- one number: the 4,096 cases are computed
-one-bit : (n : ℕ) → n < 64 → (1 * 2 ^ n) % 2 ^ 64 ≡ 2 ^ n
+pub one-bit : (n : ℕ) → n < 64 → (1 * 2 ^ n) % 2 ^ 64 ≡ 2 ^ n
 unfolding allBelow
 one-bit n h = eqb-true _ _ (all-at 64 (λ i. eqb ((1 * 2 ^ i) % 2 ^ 64) (2 ^ i)) refl n h)
 

@@ -12,6 +12,7 @@ use borrow.Author.Tests.{ltb-true, ltb-false, lt-ltb, le-ltb, eqb-true, eq-eqb, 
 use Rattle.mask.specs.Sets.{has, bits, allBelow, unionOf, including, disjointOf}
 use Rattle.mask.proofs.Tests.{byCases, byEq, clash, bool-ext, and-true, and-intro, and-false, or-none, or-false, or-right, apart-use, apart-intro}
 use Rattle.mask.proofs.Below.{all-at, all-intro, all-more, all-fails}
+use Rattle.mask.proofs.UpTo.{upTo, up-all}
 use Rattle.mask.proofs.Bits.{bits-same, has-bits, bits-lt, as-bits, has-including, has-union, has-high, has-zero, disjoint-at}
 use Rattle.table.specs.declared.Record.{Record}
 use Rattle.table.specs.declared.Table.{Table}
@@ -19,39 +20,13 @@ use Rattle.table.specs.Cells.{recordAt, slotAt, statusAt, stockAt, unbor
 use Rattle.table.specs.Soundness.{recordSound, idleSlotSound, filledSound, slotSound, stockSound, soundAt, sound}
 use Rattle.table.proofs.Facts.{RecordFine, record-fine, born-pos, pos-born, SoundAt, sound-at, at-sound, fine-stock, stock-fine}
 
--- the born numbers, found one by one -------------------------------------------------
-unfoldable pub bornBelow : Table → ℕ → ℕ
-bornBelow t n = bits 64 (λ k. ltb k n && bornAt t k)
-
+-- the born numbers -----------------------------------------------------------------------
 unfoldable pub bornSet : Table → ℕ
 bornSet t = bits 64 (bornAt t)
 
-pub born-none : (t : Table) → 0 ≡ bornBelow t 0
-unfolding bornBelow
-born-none t = as-bits 64 0 _ (omega arith) (λ k hk. has-zero k ∙ ap (λ (b : Bool). b && bornAt t k) (sym (le-ltb k 0 (omega arith))))
-
-pub born-all : (t : Table) (n : ℕ) → 64 ≤ n → bornBelow t n ≡ bornSet t
-unfolding bornBelow bornSet
-born-all t n h = bits-same 64 _ _ (λ k hk. ap (λ (b : Bool). b && bornAt t k) (lt-ltb k n (omega arith)))
-
-later : (k n : ℕ) → k ≢ n → ltb k (n + 1) ≡ ltb k n
-later k n q = bool-ext (ltb k (n + 1)) (ltb k n)
-    (λ e. let h = ltb-true k (n + 1) e in lt-ltb k n (omega arith))
-    (λ e. let h = ltb-true k n e in lt-ltb k (n + 1) (omega arith))
-
-pub born-more : (t : Table) (n : ℕ) → bornAt t n ≡ true → including n (bornBelow t n) ≡ bornBelow t (n + 1)
-unfolding bornBelow including
-born-more t n e = bits-same 64 _ _ (λ k hk. ap (λ (b : Bool). b || eqb k n) (has-bits 64 k (λ i. ltb i n && bornAt t i) hk)
-    ∙ byEq k n
-    (λ q. ap (λ (b : Bool). (ltb k n && bornAt t k) || b) (eq-eqb k n q) ∙ or-right (ltb k n && bornAt t k) true refl
-    ∙ sym (and-intro (ltb k (n + 1)) (bornAt t k) (lt-ltb k (n + 1) (omega arith)) (ap (bornAt t) q ∙ e)))
-    (λ q. ap (λ (b : Bool). (ltb k n && bornAt t k) || b) (ne-eqb k n q) ∙ or-false (ltb k n && bornAt t k) ∙ ap (λ (b : Bool). b && bornAt t k) (sym (later k n q))))
-
-pub born-same : (t : Table) (n : ℕ) → bornAt t n ≡ false → bornBelow t n ≡ bornBelow t (n + 1)
-unfolding bornBelow
-born-same t n e = bits-same 64 _ _ (λ k hk. byEq k n
-    (λ q. ap (λ (b : Bool). ltb k n && b) (ap (bornAt t) q ∙ e) ∙ and-false (ltb k n) ∙ sym (ap (λ (b : Bool). ltb k (n + 1) && b) (ap (bornAt t) q ∙ e) ∙ and-false (ltb k (n + 1))))
-    (λ q. ap (λ (b : Bool). b && bornAt t k) (sym (later k n q))))
+pub born-all : (t : Table) (n : ℕ) → 64 ≤ n → upTo n (bornAt t) ≡ bornSet t
+unfolding bornSet
+born-all t n h = up-all (bornAt t) n h
 
 has-born : (t : Table) (x : ℕ) → length (t .records) ≡ 64 → has x (bornSet t) ≡ bornAt t x
 unfolding bornSet

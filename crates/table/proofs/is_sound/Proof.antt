@@ -1,3 +1,5 @@
+-- `is_sound` is the definition of soundness: the scan keeps that every record passed is good, and each way out of it is a law of
+-- Scan. Assumes nothing.
 use mathlib.Core.Path.{_≡_, sym, _∙_, ap, refl}
 use mathlib.Core.Bool.{true}
 use mathlib.Core.Logic.{⊎-elim}
@@ -6,16 +8,17 @@ use borrow.Author.Tests.{not-true, not-false}
 use native.Mathlib.Omega.{arith}
 use Rattle.mask.specs.Sets.{allBelow, unionOf, including}
 use Rattle.mask.proofs.Below.{all-more, all-none}
-use Rattle.table.specs.Cells.{stockAt}
+use Rattle.mask.proofs.UpTo.{upTo, up-none, up-on, up-off}
+use Rattle.table.specs.Cells.{stockAt, bornAt}
 use Rattle.table.specs.Soundness.{slotSound}
-use Rattle.table.proofs.Scan.{bornBelow, born-none, born-more, born-same, born-all, takenBelow, taken-none, taken-more, goodAt, scanned, stopped-at-record, stopped-at-slot, good-more, opens-is, slot-is}
+use Rattle.table.proofs.Scan.{born-all, takenBelow, taken-none, taken-more, goodAt, scanned, stopped-at-record, stopped-at-slot, good-more, opens-is, slot-is}
 use Rattle.table.proofs.Value.{records-long}
 use borrow.Author.Needs.{needs}
 use Rattle.table.proofs.is_sound.Statement.{statement}
 use Rattle.table.proofs.is_sound.Tie as tie
 
 abbrev Inv-born : tie.InvT-born
-Inv-born t born₀ i₀ born i = (i ≤ 64) × (born ≡ bornBelow t i)
+Inv-born t born₀ i₀ born i = (i ≤ 64) × (born ≡ upTo i (bornAt t))
 
 abbrev μ-born : tie.MeasureT-born
 μ-born t born₀ i₀ born i = 64 - i
@@ -33,7 +36,7 @@ abbrev μ-scan : tie.MeasureT-scan
 μ-scan t born i taken₀ ok₀ n₀ taken ok n = 64 - n
 
 born-holds : tie.Need-born-holds Inv-born μ-born Inv-slots μ-slots Inv-scan μ-scan
-born-holds c = (omega arith, born-none (c .args .t1))
+born-holds c = (omega arith, up-none (bornAt (c .args .t1)))
 
 mul-is-born : tie.Need-mul-is-born Inv-born μ-born Inv-slots μ-slots Inv-scan μ-scan
 mul-is-born c = search needs
@@ -61,8 +64,8 @@ born-again : tie.Need-born-again Inv-born μ-born Inv-slots μ-slots Inv-scan μ
 born-again c = (
   omega arith,
   ⊎-elim
-      (λ w. w .2 ∙ w .1 .ensures ∙ ap (including (c .before .before .before .before .born .i)) (c .before .before .before .before .born .inv .1) ∙ born-more _ _ (sym (c .before .is-born .ensures) ∙ w .0 .taken))
-      (λ w. w .1 ∙ c .before .before .before .before .born .inv .1 ∙ born-same _ _ (sym (c .before .is-born .ensures) ∙ w .0 .left))
+      (λ w. w .2 ∙ w .1 .ensures ∙ ap (including (c .before .before .before .before .born .i)) (c .before .before .before .before .born .inv .1) ∙ up-on (bornAt (c .before .before .before .before .before .args .t1)) _ (sym (c .before .is-born .ensures) ∙ w .0 .taken))
+      (λ w. w .1 ∙ c .before .before .before .before .born .inv .1 ∙ up-off (bornAt (c .before .before .before .before .before .args .t1)) _ (sym (c .before .is-born .ensures) ∙ w .0 .left))
       (c .if1 .came),
 )
 

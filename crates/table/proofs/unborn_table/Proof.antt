@@ -1,3 +1,4 @@
+-- `unborn_table` is the wholly unborn table, by computing. Assumes nothing.
 use mathlib.Core.Path.{refl}
 use Rattle.table.specs.Cells.{unbornTable}
 use Rattle.table.proofs.unborn_table.Statement.{statement}

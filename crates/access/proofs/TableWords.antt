@@ -1,0 +1,97 @@
+-- The words of a table: where the rules start from the born numbers and every slot between them, the saturated words are the
+-- closure of the table's holding. Assumes nothing.
+use mathlib.Core.Path.{_≡_, refl, sym, _∙_, ap, subst, subst⁻¹}
+use mathlib.Core.Bool.{Bool, true, false, not, _&&_}
+use mathlib.Core.List.{List}
+use Prim.Native.Nat.{ℕ, _+_, _*_, _/_, _%_, _^_, _<_}
+use native.Mathlib.Omega.{arith}
+use lib.Dec.{ltb, eqb}
+use lib.ListN.{getD, replicate}
+use borrow.Author.Tests.{ltb-true, lt-ltb, eqb-true, eq-eqb, not-true}
+use Rattle.mask.specs.Sets.{has, bits}
+use Rattle.mask.proofs.Tests.{byCases, and-true, and-intro}
+use Rattle.mask.proofs.Below.{any-intro, any-elim}
+use Rattle.mask.proofs.Bits.{has-bits, bits-lt, has-zero}
+use Rattle.table.specs.declared.Record.{Record}
+use Rattle.table.specs.declared.Table.{Table}
+use Rattle.table.specs.Lists.{tabulate}
+use Rattle.table.specs.Cells.{slotAt, bornAt, isBorn, unbornRecord}
+use Rattle.table.specs.Soundness.{sound}
+use Rattle.access.specs.declared.Access.{Access}
+use Rattle.access.specs.declared.AccessReply.the-variants.{Done, TableUnsound}
+use Rattle.access.specs.Relation.{Right, bitAt, Holding, Can, holds, takesPart, holdsIn, tableHolding}
+use Rattle.access.specs.Closure.{rowOf}
+use Rattle.access.specs.Answers.{bornOutside, rightAt, accessOf}
+use Rattle.access.specs.Words.{wordAt, slotOf, Grounded, Begun, Saturated}
+use Rattle.access.proofs.Exact.{table-low}
+use Rattle.access.proofs.Saturation.{Base, base-kept, exact-words}
+use Rattle.access.proofs.Marks.{has-low}
+
+-- born numbers outside a set -------------------------------------------------------
+pub outside-lt : (records : List Record) (set : ℕ) → bornOutside records set < 2 ^ 64
+unfolding bornOutside
+outside-lt records set = bits-lt 64 _
+
+pub outside-facts : (t : Table) (set n : ℕ) → has n (bornOutside (t .records) set) ≡ true → (takesPart t n ≡ true) × (has n set ≡ false)
+unfolding bornOutside takesPart
+outside-facts t set n e =
+    let l = has-low _ n (outside-lt (t .records) set) e in
+    let p = and-true (bornAt t n) (not (has n set)) (sym (has-bits 64 n (λ k. bornAt t k && not (has k set)) l) ∙ e) in
+    (and-intro (ltb n 64) (bornAt t n) (lt-ltb n 64 l) (p .0), not-true _ (p .1))
+
+pub outside-intro : (t : Table) (set n : ℕ) → takesPart t n ≡ true → has n set ≡ false → has n (bornOutside (t .records) set) ≡ true
+unfolding bornOutside takesPart
+outside-intro t set n e o =
+    let p = and-true (ltb n 64) (bornAt t n) e in
+    has-bits 64 n (λ k. bornAt t k && not (has k set)) (ltb-true n 64 (p .0)) ∙ and-intro (bornAt t n) (not (has n set)) (p .1) (ap not o)
+
+-- a right in a slot is held, and a held right is in a slot -----------------------------
+pub slot-held : (t : Table) (b : Right) (k : ℕ) → has (bitAt b) (slotOf (t .slots) k .rights) ≡ true → holdsIn t b (k / 8) (slotOf (t .slots) k .target) ≡ true
+unfolding holdsIn
+slot-held t b k e =
+    let at : k / 8 * 8 + k % 8 ≡ k = omega arith in
+    any-intro 8 _ (k % 8) (omega arith) (subst⁻¹ (λ (i : ℕ). (eqb (slotOf (t .slots) i .target) (slotOf (t .slots) k .target) && has (bitAt b) (slotOf (t .slots) i .rights)) ≡ true) at
+    (and-intro _ _ (eq-eqb (slotOf (t .slots) k .target) (slotOf (t .slots) k .target) refl) e))
+
+pub held-slot : {P : Type 0} (t : Table) (b : Right) (x y : ℕ) → holdsIn t b x y ≡ true → x < 64
+    → ((k : ℕ) → k < 512 → k / 8 ≡ x → slotOf (t .slots) k .target ≡ y → has (bitAt b) (slotOf (t .slots) k .rights) ≡ true → P) → P
+unfolding holdsIn
+held-slot t b x y e hx f = any-elim 8 _ e (λ j hj q.
+    let p = and-true (eqb (slotAt t x j .target) y) _ q in
+    f (x * 8 + j) (omega arith) (omega arith) (eqb-true (slotAt t x j .target) y (p .0)) (p .1))
+
+-- the table's words --------------------------------------------------------------------
+module _ (t : Table) (s r : List ℕ) (begun : Begun (t .slots) (bornOutside (t .records) 0) (bornOutside (t .records) 0) s) (k : Saturated s r) where
+  abbrev N : ℕ
+  N = bornOutside (t .records) 0
+
+  grounded : Grounded (tableHolding t) (t .slots) N N
+  grounded = record {
+    own = λ x h e. outside-facts t 0 x e .0;
+    held = λ b i h u v e. holds {b = b} (outside-facts t 0 _ u .0) (outside-facts t 0 _ v .0) (slot-held t b i e);
+  }
+
+  based : Base (tableHolding t) s
+  based = record {
+    own = λ b x e. begun .own b x (table-low t x e) (outside-intro t 0 x e (has-zero x));
+    held = λ b x y u v e. held-slot t b x y e (table-low t x u) (λ i h q w f.
+        subst (λ (m : ℕ). has y (wordAt s b m) ≡ true) q (subst (λ (m : ℕ). has m (wordAt s b (i / 8)) ≡ true) w
+        (begun .held b i h (subst⁻¹ (λ (m : ℕ). has m N ≡ true) q (outside-intro t 0 x u (has-zero x)))
+        (subst⁻¹ (λ (m : ℕ). has m N ≡ true) w (outside-intro t 0 y v (has-zero y))) f)));
+  }
+
+  table-words : r ≡ tabulate 256 (λ i. rowOf (tableHolding t) (rightAt (i / 64)) (i % 64))
+  table-words = exact-words (tableHolding t) (table-low t) r (k .kept .long ∙ begun .full .long) (base-kept based (k .kept)) (k .closed)
+      (k .derived (tableHolding t) (begun .derived (tableHolding t) grounded)) (k .kept .fits (begun .full .fits))
+
+-- the two ways out of the call --------------------------------------------------------------
+pub access-done : (t : Table) (b : Bool) (n : ℕ) (s r : List ℕ) → b ≡ sound t → b ≡ true → n ≡ bornOutside (t .records) 0 → Begun (t .slots) n n s → Saturated s r
+    → record { reply = Done; rows = r } ≡ accessOf t
+unfolding accessOf
+access-done t b n s r p q e begun k =
+    let z = table-words t s r (subst (λ (m : ℕ). Begun (t .slots) m m s) e begun) k in
+    rw (sym p ∙ q, accessOf) (λ i. record { reply = Done; rows = z i })
+
+pub access-refused : (t : Table) (b : Bool) → b ≡ sound t → b ≡ false → record { reply = TableUnsound; rows = replicate 256 0 } ≡ accessOf t
+unfolding accessOf
+access-refused t b p q = rw (sym p ∙ q, accessOf) refl
