@@ -109,7 +109,7 @@ module _ (h : Holding) where
   bonds-can p stay = self p
   bonds-can {b} p (step {y = w} {z = z} q e) = reads (bonds-can p q) (bond-can b w z e)
 
-  links-can : {x y : ℕ} → h .node x ≡ true → Path (linkBack h) x y → Can h wk x y
+  pub links-can : {x y : ℕ} → h .node x ≡ true → Path (linkBack h) x y → Can h wk x y
   links-can p stay = self p
   links-can p (step {y = w} {z = z} q e) = weak-wk (links-can p q) (link-can w z e)
 
@@ -164,7 +164,7 @@ module _ (h : Holding) where
   influences-links (by-rd c) = (means c .over, means c .links)
   influences-links (by-wk c) = (means c .over, means c .links)
 
-  influenced-links : {x y : ℕ} → Influenced h x y → (h .node x ≡ true) × (Path (link h) x y)
+  pub influenced-links : {x y : ℕ} → Influenced h x y → (h .node x ≡ true) × (Path (link h) x y)
   influenced-links (first i) = (influences-links i .0, turn (link h) (influences-links i .1))
   influenced-links (more p i) = (influenced-links p .0, join (influenced-links p .1) (turn (link h) (influences-links i .1)))
 

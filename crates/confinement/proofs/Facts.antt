@@ -77,7 +77,7 @@ none-and true b e h = e
 none-and false b e h = absurd (false≢true h)
 
 module _ (t : Table) (members : ℕ) (list : List Capability) where
-  members-facts : badMembers t members ≡ false
+  pub members-facts : badMembers t members ≡ false
       → ((standIn members < 64) × (has (standIn members) members ≡ true)) × ((n : ℕ) → n < 64 → has n members ≡ true → isAlive (recordAt t n) ≡ true)
   unfolding badMembers standIn
   members-facts e =

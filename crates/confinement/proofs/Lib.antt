@@ -1,2 +1,5 @@
 pub mod Bound
 pub mod Facts
+pub mod Scans
+pub mod BoundWords
+pub mod Verdicts

@@ -6,6 +6,7 @@ use lib.Dec.{eqb}
 use Rattle.table.specs.declared.Capability.{Capability}
 use Rattle.table.specs.declared.Table.{Table}
 use Rattle.confinement.specs.declared.Verdict.{Verdict}
+use Rattle.confinement.specs.declared.Verdict.the-variants.{Accepted}
 use Rattle.confinement.specs.declared.Tested.{Tested}
 use Rattle.confinement.specs.StandIn.{boundOf}
 use Rattle.confinement.specs.Refusals.{verdictOf, verdictNumber}
@@ -13,8 +14,13 @@ use Rattle.confinement.specs.Refusals.{verdictOf, verdictNumber}
 abbrev pub isAccepted : Verdict → Bool
 isAccepted v = eqb (verdictNumber v) 0
 
+-- a refusal, with an empty bound
+abbrev pub refusedTest : Verdict → Tested
+refusedTest why = record { verdict = why; bound = 0 }
+
 unfoldable pub testOf : Table → ℕ → List Capability → Tested
-testOf t members list = record {
-  verdict = verdictOf t members list;
-  bound = elim (isAccepted (verdictOf t members list)) [ true ↦ boundOf t members list | false ↦ 0 ];
-}
+testOf t members list =
+    elim (isAccepted (verdictOf t members list)) [
+      | true ↦ record { verdict = Accepted; bound = boundOf t members list }
+      | false ↦ refusedTest (verdictOf t members list)
+    ]

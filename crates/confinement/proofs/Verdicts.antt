@@ -1,0 +1,74 @@
+-- The six ways out of the test: what the checks found, as the verdict of the definition. Assumes nothing.
+use mathlib.Core.Path.{_≡_, refl, sym, _∙_, ap}
+use mathlib.Core.Bool.{Bool, true, false, not}
+use mathlib.Core.List.{List}
+use Prim.Native.Nat.{ℕ, _<_}
+use Rattle.table.specs.declared.Capability.{Capability}
+use Rattle.table.specs.declared.Table.{Table}
+use Rattle.table.specs.Soundness.{sound}
+use Rattle.access.specs.Answers.{bornOutside}
+use Rattle.confinement.specs.declared.Verdict.{Verdict}
+use Rattle.confinement.specs.declared.Verdict.the-variants.{Accepted, TableUnsound, MembersInvalid, ListInvalid, RightUnlisted, MemberHeld}
+use Rattle.confinement.specs.declared.Tested.{Tested}
+use Rattle.confinement.specs.StandIn.{standIn, boundOf}
+use Rattle.confinement.specs.Refusals.{refuse, badMembers, badList, badHeld, memberHeld, verdictOf}
+use Rattle.confinement.specs.Tests.{isAccepted, refusedTest, testOf}
+use Rattle.confinement.specs.Parts.{listBad}
+use Rattle.confinement.proofs.Scans.{list-same}
+use Rattle.confinement.proofs.Facts.{members-facts}
+
+module _ (t : Table) (members : ℕ) (list : List Capability) where
+  by-verdict : (v : Verdict) → isAccepted v ≡ false → verdictOf t members list ≡ v → refusedTest v ≡ testOf t members list
+  unfolding testOf
+  by-verdict v n e = rw (ap isAccepted e ∙ n, testOf) (ap refusedTest (sym e))
+
+  accepted : verdictOf t members list ≡ Accepted → record { verdict = Accepted; bound = boundOf t members list } ≡ testOf t members list
+  unfolding testOf
+  accepted e = rw (ap isAccepted e, testOf) refl
+
+  module _ (b1 : Bool) (s1 : b1 ≡ sound t) where
+    pub test-1 : b1 ≡ false → refusedTest TableUnsound ≡ testOf t members list
+    unfolding verdictOf
+    test-1 e = by-verdict TableUnsound refl (let f : sound t ≡ false = sym s1 ∙ e in rw f refl)
+
+    module _ (e1 : b1 ≡ true) (b10 : Bool) (s10 : b10 ≡ badMembers t members) where
+      f1 : sound t ≡ true
+      f1 = sym s1 ∙ e1
+
+      pub test-10 : b10 ≡ true → refusedTest MembersInvalid ≡ testOf t members list
+      unfolding verdictOf
+      test-10 e = by-verdict MembersInvalid refl (let f : badMembers t members ≡ true = sym s10 ∙ e in rw (f1, f) refl)
+
+      -- some member there is
+      pub standing : b10 ≡ false → standIn members < 64
+      standing e = members-facts t members list (sym s10 ∙ e) .0 .0
+
+      module _ (e10 : b10 ≡ false) (outside : ℕ) (o : outside ≡ bornOutside (t .records) members) (b11 : Bool) (s11 : b11 ≡ listBad outside list) where
+        f10 : badMembers t members ≡ false
+        f10 = sym s10 ∙ e10
+
+        f11 : (x : Bool) → b11 ≡ x → badList t members list ≡ x
+        f11 x e = sym (list-same t members list) ∙ ap (λ (m : ℕ). listBad m list) (sym o) ∙ sym s11 ∙ e
+
+        pub test-11 : b11 ≡ true → refusedTest ListInvalid ≡ testOf t members list
+        unfolding verdictOf
+        test-11 e = by-verdict ListInvalid refl (rw (f1, f10, f11 true e) refl)
+
+        module _ (e11 : b11 ≡ false) (b12 : Bool) (s12 : b12 ≡ badHeld t members list) where
+          pub test-12 : b12 ≡ true → refusedTest RightUnlisted ≡ testOf t members list
+          unfolding verdictOf
+          test-12 e = by-verdict RightUnlisted refl (let f : badHeld t members list ≡ true = sym s12 ∙ e in rw (f1, f10, f11 false e11, f) refl)
+
+          module _ (e12 : b12 ≡ false) (b13 : Bool) (s13 : b13 ≡ memberHeld t members) where
+            f12 : badHeld t members list ≡ false
+            f12 = sym s12 ∙ e12
+
+            pub test-13 : b13 ≡ true → refusedTest MemberHeld ≡ testOf t members list
+            unfolding verdictOf
+            test-13 e = by-verdict MemberHeld refl (let f : memberHeld t members ≡ true = sym s13 ∙ e in rw (f1, f10, f11 false e11, f12, f) refl)
+
+            pub test-0 : b13 ≡ false → (found : ℕ) → found ≡ boundOf t members list → record { verdict = Accepted; bound = found } ≡ testOf t members list
+            unfolding verdictOf
+            test-0 e found g =
+                (λ i. record { verdict = Accepted; bound = g i })
+                ∙ accepted (let f : memberHeld t members ≡ false = sym s13 ∙ e in rw (f1, f10, f11 false e11, f12, f) refl)

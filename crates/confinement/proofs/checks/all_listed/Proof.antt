@@ -1,0 +1,37 @@
+use mathlib.Core.Path.{_∙_, ap, ap₂}
+use mathlib.Core.Bool.{Bool, not, _&&_, _||_}
+use Rattle.access.specs.Relation.{rd, wr, wk, tx}
+use Rattle.confinement.specs.Refusals.{allListed}
+use Rattle.confinement.proofs.Scans.{all-covered}
+use borrow.Author.Needs.{needs}
+use Rattle.confinement.proofs.checks.all_listed.Statement.{statement}
+use Rattle.confinement.proofs.checks.all_listed.Tie as tie
+
+listed-for-requires : tie.Need-listed-for-requires
+listed-for-requires c κs = search needs
+
+covered-requires : tie.Need-covered-requires
+covered-requires c κs = search needs
+
+covered-requires-2 : tie.Need-covered-requires-2
+covered-requires-2 c κs = search needs
+
+covered-requires-3 : tie.Need-covered-requires-3
+covered-requires-3 c κs = search needs
+
+covered-requires-4 : tie.Need-covered-requires-4
+covered-requires-4 c κs = search needs
+
+returns : tie.Need-returns
+returns c = all-covered _ _ _ _ _ _ _ (c .before .before .before .before .listed-for .ensures) (c .before .before .before .covered .ensures) (c .before .before .covered2 .ensures) (c .before .covered3 .ensures) (c .covered4 .ensures)
+
+pub all-listed-spec : {M : Type 1} → statement M
+all-listed-spec =
+    tie.close
+    (tie.spec
+    listed-for-requires
+    covered-requires
+    covered-requires-2
+    covered-requires-3
+    covered-requires-4
+    returns)

@@ -1,0 +1,139 @@
+// What turns the confinement test down, document 01, rows 10 to 13.
+use crate::EntryList;
+use table::Capability;
+use table::Table;
+ghost use mathlib.Core.Path.{_≡_};
+ghost use mathlib.Core.Bool.{Bool, not, _||_};
+ghost use Prim.Native.Nat.{_≤_, _<_};
+ghost use Rattle.mask.specs.Sets.{has};
+ghost use Rattle.access.specs.Relation.{Right, bitAt};
+ghost use Rattle.confinement.specs.StandIn.{entriesOf, listed};
+ghost use Rattle.confinement.specs.Refusals.{badMembers, allListed, badHeld, memberHeld};
+ghost use Rattle.confinement.specs.Parts.{entryBad, listBad, slotUnlisted, slotNamesMember};
+
+// Row 10: no member, or one that is not alive.
+pub fn members_bad(t: Table, members: u64) -> bool
+    ensures { λ r. ⌜ r ≡ badMembers t members ⌝ }
+{
+    let mut n: usize = 0;
+    while n < 64 {
+        if mask::has(members, n as u8) & !(t.records[n].status == 1) {
+            return true;
+        }
+        n = n + 1;
+    }
+    members == 0
+}
+
+// Row 11 for one entry.
+pub fn entry_bad(outside: u64, e: Capability) -> bool
+    ensures { λ r. ⌜ r ≡ entryBad outside e ⌝ }
+{
+    (e.rights == 0) | (15 < e.rights) | !mask::has(outside, e.target)
+}
+
+// Row 11, by the set of born non-members.
+pub fn list_bad(outside: u64, l: EntryList) -> bool
+    ensures { λ r. ⌜ r ≡ listBad outside (entriesOf l) ⌝ }
+{
+    let count = l.count as usize;
+    if 8 < count {
+        return true;
+    }
+    let mut k: usize = 0;
+    while k < count {
+        if entry_bad(outside, l.entries[k]) {
+            return true;
+        }
+        k = k + 1;
+    }
+    false
+}
+
+// The rights that the list has for a target: the union over its entries.
+pub fn listed_for(l: EntryList, target: u8) -> u64
+    requires { ⌜ l .count ≤ 8 ⌝ }
+    ensures { λ r. ⌜ ((b : Right) → has (bitAt b) r ≡ listed (entriesOf l) b target) ⌝ }
+{
+    let count = l.count as usize;
+    let mut found: u64 = 0;
+    let mut k: usize = 0;
+    while k < count {
+        let e = l.entries[k];
+        if e.target == target {
+            found = mask::union(found, e.rights as u64);
+        }
+        k = k + 1;
+    }
+    found
+}
+
+// Is right b absent, or among the listed ones?
+pub fn covered(rights: u8, listed: u64, b: u8) -> bool
+    ensures { λ r. ⌜ r ≡ (not (has b rights) || has b listed) ⌝ }
+{
+    !mask::has(rights as u64, b) | mask::has(listed, b)
+}
+
+// Is each right of the capability listed for its target?
+pub fn all_listed(l: EntryList, c: Capability) -> bool
+    requires { ⌜ l .count ≤ 8 ⌝ }
+    ensures { λ r. ⌜ r ≡ allListed (entriesOf l) c ⌝ }
+{
+    let found = listed_for(l, c.target);
+    let rights = c.rights;
+    covered(rights, found, 0)
+        & covered(rights, found, 1)
+        & covered(rights, found, 2)
+        & covered(rights, found, 3)
+}
+
+// Row 12 at a slot of n.
+pub fn slot_unlisted(members: u64, l: EntryList, n: u8, c: Capability) -> bool
+    requires { ⌜ l .count ≤ 8 ⌝ }
+    ensures { λ r. ⌜ r ≡ slotUnlisted members (entriesOf l) n c ⌝ }
+{
+    if !mask::has(members, n) {
+        return false;
+    }
+    if mask::has(members, c.target) {
+        return false;
+    }
+    !all_listed(l, c)
+}
+
+// Row 12: a member's capability to a non-member has a right not listed for it.
+pub fn right_unlisted(t: Table, members: u64, l: EntryList) -> bool
+    requires { ⌜ l .count ≤ 8 ⌝ }
+    ensures { λ r. ⌜ r ≡ badHeld t members (entriesOf l) ⌝ }
+{
+    let mut k: usize = 0;
+    while k < 512 {
+        if slot_unlisted(members, l, (k / 8) as u8, t.slots[k]) {
+            return true;
+        }
+        k = k + 1;
+    }
+    false
+}
+
+// Row 13 at a slot of n.
+pub fn slot_names_member(members: u64, n: u8, c: Capability) -> bool
+    ensures { λ r. ⌜ r ≡ slotNamesMember members n c ⌝ }
+{
+    !mask::has(members, n) & (!((c.target == 0) & (c.rights == 0)) & mask::has(members, c.target))
+}
+
+// Row 13: a non-member, passive ones too, holds a capability naming a member.
+pub fn member_held(t: Table, members: u64) -> bool
+    ensures { λ r. ⌜ r ≡ memberHeld t members ⌝ }
+{
+    let mut k: usize = 0;
+    while k < 512 {
+        if slot_names_member(members, (k / 8) as u8, t.slots[k]) {
+            return true;
+        }
+        k = k + 1;
+    }
+    false
+}
