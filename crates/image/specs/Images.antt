@@ -1,8 +1,8 @@
 -- What reading and writing return and leave. "Reading checks 14, 15, then 1; the failing read returns the unborn table.
 -- Writing checks 1, then 16"; it "fills the first 1,923 bytes and touches no byte after them".
 use mathlib.Core.Bool.{Bool, true, false, not, _||_}
-use mathlib.Core.List.{List, [], _∷_, _++_}
-use Prim.Native.Nat.{ℕ, _+_, _*_}
+use mathlib.Core.List.{List, _++_}
+use Prim.Native.Nat.{ℕ}
 use lib.Dec.{ltb, eqb}
 use lib.ListN.{length, drop, take}
 use Rattle.table.specs.declared.Table.{Table}
@@ -38,11 +38,16 @@ readRefusal bytes =
       ]
     ]
 
+-- a refused read, with the wholly unborn table
+abbrev pub refusedRead : ReadReply → Loaded
+refusedRead why = record { reply = why; table = unbornTable }
+
 unfoldable pub readOf : List ℕ → Loaded
-readOf bytes = record {
-  reply = readRefusal bytes;
-  table = elim (eqb (readNumber (readRefusal bytes)) 0) [ true ↦ tableFrom bytes | false ↦ unbornTable ];
-}
+readOf bytes =
+    elim (eqb (readNumber (readRefusal bytes)) 0) [
+      | true ↦ record { reply = R.Done; table = tableFrom bytes }
+      | false ↦ refusedRead (readRefusal bytes)
+    ]
 
 -- 1, then 16: "buffer below 1,923 bytes"
 unfoldable pub writeRefusal : Table → List ℕ → WriteReply

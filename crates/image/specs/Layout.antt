@@ -7,7 +7,8 @@ use Rattle.table.specs.declared.Capability.{Capability}
 use Rattle.table.specs.declared.Record.{Record}
 use Rattle.table.specs.declared.Table.{Table}
 use Rattle.table.specs.Lists.{tabulate}
-use Rattle.table.specs.Cells.{recordAt, slotAt}
+use Rattle.table.specs.Cells.{recordAt, slotAt, emptySlot}
+use Rattle.image.specs.declared.Stored.{Stored}
 use Rattle.image.specs.Numbers.{bytesOf, numberOf}
 
 abbrev pub imageLength : ℕ
@@ -26,32 +27,36 @@ head = 0x07 ∷ 0x83 ∷ 0x01 ∷ []
 abbrev pub byteAt : List ℕ → ℕ → ℕ
 byteAt bytes k = getD bytes k 0
 
-abbrev pub slotBytes : Capability → List ℕ
-slotBytes c = c .target ∷ c .rights ∷ []
+-- where object n's record begins: "3 + 30 times n"
+abbrev pub placeOf : ℕ → ℕ
+placeOf n = 3 + recordLength * n
 
--- the slots of n, from j on, k of them
-unfoldable pub slotsBytes : Table → ℕ → ℕ → ℕ → List ℕ
-slotsBytes t n j zero = []
-slotsBytes t n j (suc k) = slotBytes (slotAt t n j) ++ slotsBytes t n (suc j) k
+-- object n with its eight slots, as a record of the image holds them
+unfoldable pub storedAt : Table → ℕ → Stored
+storedAt t n = record { object = recordAt t n; slots = tabulate 8 (slotAt t n) }
 
--- the 30 bytes of object n
-unfoldable pub recordBytes : Table → ℕ → List ℕ
-recordBytes t n =
-    (recordAt t n .status ∷ recordAt t n .kind ∷ []) ++ bytesOf 4 (recordAt t n .word) ++ bytesOf 8 (recordAt t n .stock)
-    ++ slotsBytes t n 0 8
+-- the bytes of the first k slots
+unfoldable pub slotsBytes : List Capability → ℕ → List ℕ
+slotsBytes slots zero = []
+slotsBytes slots (suc k) = slotsBytes slots k ++ (getD slots k emptySlot .target ∷ getD slots k emptySlot .rights ∷ [])
 
--- k records from n on
-unfoldable pub recordsBytes : Table → ℕ → ℕ → List ℕ
-recordsBytes t n zero = []
-recordsBytes t n (suc k) = recordBytes t n ++ recordsBytes t (suc n) k
+-- the 30 bytes of a record
+unfoldable pub storedBytes : Stored → List ℕ
+storedBytes s =
+    (s .object .status ∷ s .object .kind ∷ []) ++ (bytesOf 4 (s .object .word) ++ (bytesOf 8 (s .object .stock) ++ slotsBytes (s .slots) 8))
+
+-- the bytes of the first n records, "in number order"
+unfoldable pub recordsBytes : Table → ℕ → List ℕ
+recordsBytes t zero = []
+recordsBytes t (suc n) = recordsBytes t n ++ storedBytes (storedAt t n)
 
 -- the bytes of a table
 unfoldable pub imageOf : Table → List ℕ
-imageOf t = head ++ recordsBytes t 0 64
+imageOf t = head ++ recordsBytes t 64
 
--- "Each 30-byte record is read from its own part of the image", at 3 + 30 times n
+-- "Each 30-byte record is read from its own part of the image"
 unfoldable pub partOf : List ℕ → ℕ → List ℕ
-partOf bytes n = take recordLength (drop (3 + recordLength * n) bytes)
+partOf bytes n = take recordLength (drop (placeOf n) bytes)
 
 unfoldable pub recordFrom : List ℕ → Record
 recordFrom part = record {
@@ -63,6 +68,9 @@ recordFrom part = record {
 
 unfoldable pub slotFrom : List ℕ → ℕ → Capability
 slotFrom part j = record { target = byteAt part (14 + 2 * j); rights = byteAt part (15 + 2 * j) }
+
+unfoldable pub storedFrom : List ℕ → Stored
+storedFrom part = record { object = recordFrom part; slots = tabulate 8 (slotFrom part) }
 
 -- the table of an image's bytes
 unfoldable pub tableFrom : List ℕ → Table

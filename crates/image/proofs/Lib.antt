@@ -1,0 +1,8 @@
+-- The laws that the proofs cite, and the theorems on round trips.
+pub mod Numbers
+pub mod Lists
+pub mod Places
+pub mod Load
+pub mod Store
+pub mod Replies
+pub mod RoundTrip

@@ -1,0 +1,85 @@
+-- The loops that read a table: what has been read when n records and k slots are in place. Both stand in number order, so each
+-- store is the next of its list. Assumes nothing.
+use mathlib.Core.Path.{_≡_, refl, sym, _∙_, ap, ap₂}
+use mathlib.Core.List.{List}
+use Prim.Native.Nat.{ℕ, _+_, _-_, _*_, _/_, _%_, _^_, _<_}
+use native.Mathlib.Omega.{arith}
+use lib.ListN.{length, getD, take, drop, length-set, length-take, length-drop}
+use Rattle.table.specs.declared.Capability.{Capability}
+use Rattle.table.specs.declared.Record.{Record}
+use Rattle.table.specs.declared.Table.{Table}
+use Rattle.table.specs.Cells.{unbornTable, putRecord, putSlot, emptySlot}
+use Rattle.table.specs.Lists.{tabulate}
+use Rattle.image.specs.declared.Stored.{Stored}
+use Rattle.image.specs.Numbers.{numberOf}
+use Rattle.image.specs.Layout.{byteAt, partOf, recordFrom, slotFrom, storedFrom, tableFrom}
+use Rattle.image.proofs.Numbers.{Bytes, number-lt}
+use Rattle.image.proofs.Places.{bytes-take, bytes-drop}
+use Rattle.table.proofs.Lists.{getD-tabulate}
+use Rattle.image.proofs.Lists.{filled-none, filled-more, filled-all}
+
+-- slot j of object n stands in part n
+pub slot-place : (bytes : List ℕ) (n j : ℕ) → j < 8 → slotFrom (partOf bytes ((n * 8 + j) / 8)) ((n * 8 + j) % 8) ≡ slotFrom (partOf bytes n) j
+slot-place bytes n j h = ap₂ (λ (m i : ℕ). slotFrom (partOf bytes m) i) (omega arith) (omega arith)
+
+abbrev pub recordOf : List ℕ → ℕ → Record
+recordOf bytes n = recordFrom (partOf bytes n)
+
+abbrev pub slotOf : List ℕ → ℕ → Capability
+slotOf bytes k = slotFrom (partOf bytes (k / 8)) (k % 8)
+
+-- what the record reader puts together
+pub word-fits : (part : List ℕ) → length part ≡ 30 → Bytes part → numberOf (take 4 (drop 2 part)) < 2 ^ 32
+word-fits part l b =
+    let e : length (take 4 (drop 2 part)) ≡ 4 = simp (length-take, length-drop) (omega arith) in
+    rw e at (number-lt (take 4 (drop 2 part)) (bytes-take 4 (drop 2 part) (bytes-drop 2 part b)))
+
+pub stored-made : (part : List ℕ) (w k : ℕ) (slots : List Capability)
+    → w ≡ numberOf (take 4 (drop 2 part)) → k ≡ numberOf (take 8 (drop 6 part)) → slots ≡ tabulate 8 (slotFrom part)
+    → record { object = record { status = byteAt part 0; kind = byteAt part 1; word = w; stock = k }; slots = slots } ≡ storedFrom part
+unfolding storedFrom recordFrom
+stored-made part w k slots e f g = rw (e, f, g) refl
+
+-- what the record reader is lent is the record's part
+pub stored-lent : (bytes : List ℕ) (n : ℕ) (s : Stored) → s ≡ storedFrom (take (3 + 30 * n + 30 - (3 + 30 * n)) (drop (3 + 30 * n) bytes)) → s ≡ storedFrom (partOf bytes n)
+unfolding partOf
+stored-lent bytes n s e =
+    let f : 3 + 30 * n + 30 - (3 + 30 * n) ≡ 30 = omega arith in
+    e ∙ ap (λ (k : ℕ). storedFrom (take k (drop (3 + 30 * n) bytes))) f
+
+pub record ReadTo (bytes : List ℕ) (t : Table) (n k : ℕ) : Type 0 where
+  pub long : length (t .records) ≡ 64
+  pub wide : length (t .slots) ≡ 512
+  pub records : take n (t .records) ≡ tabulate n (recordOf bytes)
+  pub slots : take k (t .slots) ≡ tabulate k (slotOf bytes)
+
+pub read-none : (bytes : List ℕ) (t : Table) → t ≡ unbornTable → ReadTo bytes t 0 0
+unfolding unbornTable
+read-none bytes t e = rw e (record { long = refl; wide = refl; records = filled-none (recordOf bytes); slots = filled-none (slotOf bytes) })
+
+pub record-more : (bytes : List ℕ) (t : Table) (n k : ℕ) (s : Stored) → n < 64 → s ≡ storedFrom (partOf bytes n) → ReadTo bytes t n k → ReadTo bytes (putRecord t n (s .object)) (n + 1) k
+unfolding storedFrom
+record-more bytes t n k s h e r = record {
+  long = length-set (t .records) n _ ∙ r .long;
+  wide = r .wide;
+  records = filled-more n (recordOf bytes) (t .records) (s .object) (omega (arith, r .long)) (r .records) (ap (λ (x : Stored). x .object) e);
+  slots = r .slots;
+}
+
+pub slot-more : (bytes : List ℕ) (t : Table) (m n j : ℕ) (s : Stored) → n < 64 → j < 8 → s ≡ storedFrom (partOf bytes n) → ReadTo bytes t m (n * 8 + j)
+    → ReadTo bytes (putSlot t n j (getD (s .slots) j emptySlot)) m (n * 8 + (j + 1))
+unfolding storedFrom
+slot-more bytes t m n j s h g e r =
+    let f : n * 8 + j + 1 ≡ n * 8 + (j + 1) = omega arith in
+    record {
+      long = r .long;
+      wide = length-set (t .slots) (n * 8 + j) _ ∙ r .wide;
+      records = r .records;
+      slots = rw f at (filled-more (n * 8 + j) (slotOf bytes) (t .slots) (getD (s .slots) j emptySlot) (omega (arith, r .wide)) (r .slots)
+          (ap (λ (x : Stored). getD (x .slots) j emptySlot) e ∙ getD-tabulate 8 _ j emptySlot g ∙ sym (slot-place bytes n j g)));
+    }
+
+pub read-all : (bytes : List ℕ) (t : Table) (n k : ℕ) → n ≡ 64 → k ≡ 512 → ReadTo bytes t n k → t ≡ tableFrom bytes
+unfolding tableFrom
+read-all bytes t n k e f r = ap₂ (λ (x : List Record) (y : List Capability). record { records = x; slots = y })
+    (filled-all n 64 (recordOf bytes) (t .records) (r .long) e (r .records)) (filled-all k 512 (slotOf bytes) (t .slots) (r .wide) f (r .slots))
