@@ -1,3 +1,4 @@
+-- `potential_access` answers the closure of the table, or that it is not sound. Assumes nothing.
 use borrow.Author.Tests.{not-true, not-false}
 use Rattle.access.proofs.TableWords.{access-done, access-refused}
 use borrow.Author.Needs.{needs}

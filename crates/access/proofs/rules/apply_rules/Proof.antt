@@ -1,3 +1,4 @@
+-- `apply_rules` is every rule at the pair, in the order of the definition. Assumes nothing.
 use Rattle.access.proofs.Feeds.{five-steps}
 use borrow.Author.Needs.{needs}
 use Rattle.access.proofs.rules.apply_rules.Statement.{statement}

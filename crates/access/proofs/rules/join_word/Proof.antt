@@ -1,3 +1,4 @@
+-- `join_word` is one feed: the gate is the bit that the code tests, and both ways out are laws of Feeds. Assumes nothing.
 use mathlib.Core.Path.{sym}
 use Prim.Native.Nat.{_+_, _*_}
 use lib.ListN.{getD}

@@ -1,3 +1,4 @@
+-- `pass` runs the rules at the pairs 0 to 4,095: the words are those of as many pairs as the loop has passed. Assumes nothing.
 use mathlib.Core.Path.{_≡_, _∙_, ap}
 use Prim.Native.Nat.{_-_, _≤_}
 use native.Mathlib.Omega.{arith}

@@ -1,3 +1,4 @@
+-- `same_words` says whether two sets of words are equal: every word passed is the same in both. Assumes nothing.
 use mathlib.Core.Path.{_≡_, sym, _∙_, ap}
 use mathlib.Core.Bool.{true≢false, false≢true}
 use mathlib.Core.List.{List}

@@ -1,3 +1,4 @@
+-- `saturate` ends when a pass adds nothing; until then the sum of the words rises, and it is below 256 times 2 ^ 64. Assumes nothing.
 use Prim.Native.Nat.{_-_, _*_, _^_}
 use native.Mathlib.Omega.{arith}
 use Rattle.access.specs.Words.{Full}

@@ -1,3 +1,4 @@
+-- `share` is four feeds, one after the other. Assumes nothing.
 use Rattle.access.specs.Words.{shares}
 use Rattle.access.proofs.Feeds.{four-feeds}
 use borrow.Author.Needs.{needs}

@@ -1,3 +1,4 @@
+-- `visit` is every rule at the pair: where no word of x has y each rule is shut, so leaving them out changes nothing. Assumes nothing.
 use Rattle.access.proofs.Feeds.{rules-none, bit-clear}
 use borrow.Author.Needs.{needs}
 use Rattle.access.proofs.rules.visit.Statement.{statement}

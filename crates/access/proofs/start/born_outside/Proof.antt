@@ -1,3 +1,4 @@
+-- `born_outside` finds the born numbers outside a set, one number after another. Assumes nothing.
 use mathlib.Core.Path.{_≡_, sym, _∙_, ap, ap₂}
 use mathlib.Core.Bool.{Bool, not, _&&_}
 use mathlib.Core.Logic.{⊎-elim}

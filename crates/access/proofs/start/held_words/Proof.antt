@@ -1,3 +1,4 @@
+-- `held_words`: own rights of the numbers passed, then the slots passed, each a law of Marks. Assumes nothing.
 use mathlib.Core.Path.{sym, _∙_, ap₂}
 use mathlib.Core.Bool.{Bool, _&&_}
 use Prim.Native.Nat.{_-_, _≤_, _/_}

@@ -1,3 +1,4 @@
+-- `mark` sets a bit for each of the four rights: the words are those of as many rights as the loop has passed. Assumes nothing.
 use mathlib.Core.Path.{_≡_, _∙_, ap}
 use mathlib.Core.Logic.{⊎-elim}
 use Prim.Native.Nat.{ℕ, _+_, _-_, _*_, _^_, _≤_}

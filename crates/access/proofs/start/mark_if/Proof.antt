@@ -1,3 +1,4 @@
+-- `mark_if` marks where it is wanted, and else leaves the words. Assumes nothing.
 use borrow.Author.Needs.{needs}
 use Rattle.access.proofs.start.mark_if.Statement.{statement}
 use Rattle.access.proofs.start.mark_if.Tie as tie

@@ -1,3 +1,4 @@
+-- `with_entries`: the entries passed are held by x, each a law of Marks. Assumes nothing.
 use mathlib.Core.Path.{sym, _∙_}
 use Prim.Native.Nat.{_-_, _≤_, _<_}
 use native.Mathlib.Omega.{arith}

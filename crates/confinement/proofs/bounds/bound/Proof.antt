@@ -1,3 +1,4 @@
+-- `bound` is the definition: the saturated words are read off at the stand-in. Assumes nothing.
 use native.Mathlib.Omega.{arith}
 use Rattle.access.proofs.Saturation.{full-kept}
 use Rattle.confinement.proofs.BoundWords.{bound-answer}

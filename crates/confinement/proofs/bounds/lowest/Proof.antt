@@ -1,3 +1,4 @@
+-- `lowest` is the stand-in: no number passed is in the set. Assumes nothing.
 use mathlib.Core.Path.{sym, _∙_}
 use Prim.Native.Nat.{_-_, _≤_}
 use native.Mathlib.Omega.{arith}

@@ -1,3 +1,4 @@
+-- `entry_bad` is row 11 at one entry. Assumes nothing.
 use mathlib.Core.Path.{ap}
 use mathlib.Core.Bool.{Bool, not, _||_}
 use lib.Dec.{ltb, eqb}

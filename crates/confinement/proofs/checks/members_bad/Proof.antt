@@ -1,3 +1,4 @@
+-- `members_bad` is row 10: every member passed is alive. Assumes nothing.
 use mathlib.Core.Path.{_≡_, sym, _∙_, ap}
 use mathlib.Core.Bool.{Bool, false, not, _&&_}
 use Prim.Native.Nat.{ℕ, _-_, _≤_, _<_}

@@ -1,3 +1,4 @@
+-- `right_unlisted` is row 12: every slot passed is fine. Assumes nothing.
 use mathlib.Core.Path.{_≡_, sym, _∙_}
 use mathlib.Core.Bool.{false}
 use Prim.Native.Nat.{ℕ, _-_, _≤_, _<_, _/_}

@@ -1,3 +1,4 @@
+-- `slot_names_member` is row 13 at one slot. Assumes nothing.
 use mathlib.Core.Path.{ap₂}
 use mathlib.Core.Bool.{Bool, not, _&&_}
 use Rattle.table.specs.Cells.{isEmpty}

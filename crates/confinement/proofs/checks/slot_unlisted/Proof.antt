@@ -1,3 +1,4 @@
+-- `slot_unlisted` is row 12 at one slot. Assumes nothing.
 use borrow.Author.Tests.{not-true, not-false}
 use Rattle.confinement.specs.StandIn.{entriesOf}
 use Rattle.confinement.proofs.Scans.{slot-of-other, slot-to-member, slot-listed}
