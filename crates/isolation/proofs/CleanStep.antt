@@ -22,6 +22,7 @@ use Rattle.requests.specs.Replies.{isDone}
 use Rattle.requests.specs.Refusals.{refuse, noSlot, noObject, badList, badField, unfit, needMet, through, throughSlot, notInStock, targetOf, laterRows, refusal}
 use Rattle.requests.specs.Effects.{effect}
 use Rattle.requests.specs.Steps.{after}
+use Rattle.requests.proofs.Refused.{refused-keeps, done-effects}
 use Rattle.isolation.specs.Clean.{Clean, adding, cleanAfter}
 use Rattle.isolation.specs.Demand.{AgreeOn}
 use Rattle.isolation.proofs.Invariant.{Isolated}
@@ -30,7 +31,7 @@ use Rattle.isolation.proofs.Slots.{read-isolated, read-both, write-isol
 use Rattle.isolation.proofs.Sends.{send-isolated, send-both}
 use Rattle.isolation.proofs.Allocates.{allocate-clean, allocate-both}
 use Rattle.isolation.proofs.Destroys.{destroy-isolated, destroy-both}
-use Rattle.isolation.proofs.Others.{after-done, after-refused, unknown-refused}
+use Rattle.isolation.proofs.Others.{unknown-refused}
 
 -- rows 4 to 6 look at the target only where the slot is filled
 through-by : (c : Capability) (r s : Record) (able : Bool) (x y : Reply) → (isEmpty c ≡ false → (r ≡ s) × (x ≡ y)) → through c r able x ≡ through c s able y
@@ -136,16 +137,16 @@ clean-step t u C q v w ag c =
     let b = effects C t u v w ag q (refusal t q) c e e f in
     record {
       same = s;
-      left = rw (after-done t q e) (b .left);
-      right = rw (after-done u q f) (b .right);
-      cells = rw (after-done t q e, after-done u q f) (b .cells);
+      left = rw (done-effects t q e) (b .left);
+      right = rw (done-effects u q f) (b .right);
+      cells = rw (done-effects t q e, done-effects u q f) (b .cells);
     })
     (λ e.
     let f = sym (ap isDone s) ∙ e in
     let n = clean-refused C q (refusal t q) e in
     record {
       same = s;
-      left = rw (after-refused t q e, n) v;
-      right = rw (after-refused u q f, n) w;
-      cells = rw (after-refused t q e, after-refused u q f, n) ag;
+      left = rw (refused-keeps t q e, n) v;
+      right = rw (refused-keeps u q f, n) w;
+      cells = rw (refused-keeps t q e, refused-keeps u q f, n) ag;
     })

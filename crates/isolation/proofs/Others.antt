@@ -14,6 +14,7 @@ use Rattle.requests.specs.Replies.{isDone}
 use Rattle.requests.specs.Refusals.{badField, refusal}
 use Rattle.requests.specs.Effects.{effect}
 use Rattle.requests.specs.Steps.{after}
+use Rattle.requests.proofs.Refused.{refused-keeps, done-effects}
 use Rattle.isolation.specs.Clean.{Clean}
 use Rattle.isolation.specs.Demand.{AgreeOn}
 use Rattle.isolation.proofs.Invariant.{Isolated, agree-refl}
@@ -22,15 +23,6 @@ use Rattle.isolation.proofs.Slots.{read-isolated, read-out, write-isola
 use Rattle.isolation.proofs.Sends.{send-isolated, send-out}
 use Rattle.isolation.proofs.Allocates.{allocate-isolated, allocate-out}
 use Rattle.isolation.proofs.Destroys.{destroy-isolated, destroy-out}
-
-pub after-done : (t : Table) (q : Ask) → isDone (refusal t q) ≡ true → after t q ≡ effect t q
-unfolding after
-after-done t q e = rw (e, after) refl
-
--- a refused step gives the very table
-pub after-refused : (t : Table) (q : Ask) → isDone (refusal t q) ≡ false → after t q ≡ t
-unfolding after
-after-refused t q e = rw (e, after) refl
 
 -- a code with no request is never done
 pub unknown-refused : {P : Type 0} (t : Table) (k a : ℕ) → isDone (refusal t (unknown k a)) ≡ true → P
@@ -50,8 +42,8 @@ effect-outside t C (unknown k a) v c e = unknown-refused t k a e
 
 pub other-step : (t : Table) (C : Clean) (q : Ask) → Isolated t C → C (actorOf q) ≡ false → Isolated (after t q) C × AgreeOn C t (after t q)
 other-step t C q v c = byCases (isDone (refusal t q))
-    (λ e. rw (after-done t q e) (effect-outside t C q v c e))
-    (λ e. rw (after-refused t q e) (v, agree-refl C t))
+    (λ e. rw (done-effects t q e) (effect-outside t C q v c e))
+    (λ e. rw (refused-keeps t q e) (v, agree-refl C t))
 
 -- nobody clean ----------------------------------------------------------------------------
 nobody : Clean

@@ -1,6 +1,6 @@
 -- Document 01, "The eight requests": a request as it is written there, with its fields in the order shown and a true list of
 -- pairs. Sameness of requests, field for field, is equality of these.
-use mathlib.Core.List.{List, [], _∷_}
+use mathlib.Core.List.{List}
 use Prim.Native.Nat.{ℕ}
 use lib.ListN.{getD}
 use Rattle.table.specs.Lists.{tabulate}

@@ -3,3 +3,4 @@ pub mod Replies
 pub mod Refusals
 pub mod Effects
 pub mod Steps
+pub mod Parts

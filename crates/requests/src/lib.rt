@@ -1,5 +1,15 @@
-// The eight requests of document 01, as values: a request with its numbers, the pair list beside it, and the reply.
+// The eight requests of document 01 by value: a request with its numbers, the pair list beside it, and a step that takes a
+// table and gives back the reply and the table.
+use table::Capability;
 use table::Table;
+
+pub mod checks; // checks.rt: what turns a request down
+pub mod copies; // copies.rt: what a copied capability becomes, and where it lands
+pub mod effects; // effects.rt: what each request does
+
+ghost use mathlib.Core.Path.{_≡_};
+ghost use Rattle.requests.specs.Asks.{askOf};
+ghost use Rattle.requests.specs.Steps.{stepOf};
 
 // A pair is (actor's slot, destination slot).
 #[repr(C)]
@@ -92,4 +102,54 @@ pub enum Reply {
 pub struct Stepped {
     pub reply: Reply,
     pub table: Table,
+}
+
+// A record's eight slots.
+pub struct Row {
+    pub cells: [Capability; 8],
+}
+
+// What the checks of a request through a slot saw: the reply, whether it is "done", and then the slot's capability.
+pub struct Seen {
+    pub reply: Reply,
+    pub done: bool,
+    pub target: u8,
+    pub rights: u8,
+}
+
+// One request on a table: the reply, and the table after it. A refused request gives back the very table.
+pub fn step(t: Table, request: Request, list: PairList) -> Stepped
+    ensures { λ r. ⌜ r ≡ stepOf t (askOf request list) ⌝ }
+{
+    if !table::is_sound(t) {
+        return Stepped {
+            reply: Reply::TableUnsound,
+            table: t,
+        };
+    }
+    match request {
+        Request::Read { actor, t: s } => effects::read(t, actor, s),
+        Request::Write { actor, t: s, word } => effects::write(t, actor, s, word),
+        Request::Fetch { actor, t: s, i, j } => effects::fetch(t, actor, s, i, j),
+        Request::Store { actor, t: s, i, j } => effects::store(t, actor, s, i, j),
+        Request::Revoke { actor, t: s, j } => effects::revoke(t, actor, s, j),
+        Request::Send {
+            actor,
+            t: s,
+            word,
+            reply,
+        } => effects::send(t, actor, s, word, list, reply),
+        Request::Allocate {
+            actor,
+            n,
+            kind,
+            part,
+            i,
+        } => effects::allocate(t, actor, n, kind, part, i, list),
+        Request::Destroy { actor, t: s } => effects::destroy(t, actor, s),
+        Request::Unknown { code: _, actor: _ } => Stepped {
+            reply: Reply::FieldInvalid,
+            table: t,
+        },
+    }
 }
