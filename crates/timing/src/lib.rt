@@ -7,21 +7,52 @@ use requests::Reply;
 use requests::Request;
 use table::Capability;
 use table::Table;
-
 ghost use Prim.Native.Nat.{_≤_};
 
 // The request of a code with these fields; `x` and `y` are i and j, reply, or kind and slot.
 fn request_of(code: u8, actor: u8, t: u8, x: u8, y: u8, word: u32) -> Request {
     match code {
         1 => Request::Read { actor: actor, t: t },
-        2 => Request::Write { actor: actor, t: t, word: word },
-        3 => Request::Fetch { actor: actor, t: t, i: x, j: y },
-        4 => Request::Store { actor: actor, t: t, i: x, j: y },
-        5 => Request::Revoke { actor: actor, t: t, j: y },
-        6 => Request::Send { actor: actor, t: t, word: word, reply: y },
-        7 => Request::Allocate { actor: actor, n: t, kind: x, part: 0, i: y },
+        2 => Request::Write {
+            actor: actor,
+            t: t,
+            word: word,
+        },
+        3 => Request::Fetch {
+            actor: actor,
+            t: t,
+            i: x,
+            j: y,
+        },
+        4 => Request::Store {
+            actor: actor,
+            t: t,
+            i: x,
+            j: y,
+        },
+        5 => Request::Revoke {
+            actor: actor,
+            t: t,
+            j: y,
+        },
+        6 => Request::Send {
+            actor: actor,
+            t: t,
+            word: word,
+            reply: y,
+        },
+        7 => Request::Allocate {
+            actor: actor,
+            n: t,
+            kind: x,
+            part: 0,
+            i: y,
+        },
         8 => Request::Destroy { actor: actor, t: t },
-        other => Request::Unknown { code: other, actor: actor },
+        other => Request::Unknown {
+            code: other,
+            actor: actor,
+        },
     }
 }
 
@@ -55,7 +86,10 @@ fn stepped(t: Table, q: Request, k: u32) -> u64
     ensures { λ n. ⌜ n ≤ 256 ⌝ }
 {
     let none = Pair { from: 0, to: 0 };
-    let list = PairList { count: 0, pairs: [none; 4] };
+    let list = PairList {
+        count: 0,
+        pairs: [none; 4],
+    };
     let s = requests::step(t, q, list);
     let reply = s.reply;
     let next = s.table;
@@ -66,7 +100,15 @@ fn stepped(t: Table, q: Request, k: u32) -> u64
 
 // Steps by value: one request, `rounds` times on the table of an image.
 #[no_mangle]
-pub extern "C" fn timing_steps(bytes: &[u8], code: u8, actor: u8, t: u8, x: u8, y: u8, rounds: u32) -> u64 {
+pub extern "C" fn timing_steps(
+    bytes: &[u8],
+    code: u8,
+    actor: u8,
+    t: u8,
+    x: u8,
+    y: u8,
+    rounds: u32,
+) -> u64 {
     let loaded = image::read(bytes);
     let held = loaded.table;
     let mut sum: u64 = 0;
@@ -121,11 +163,23 @@ pub extern "C" fn timing_access(bytes: &[u8], rounds: u32) -> u64 {
 
 // The confinement test with one entry.
 #[no_mangle]
-pub extern "C" fn timing_tests(bytes: &[u8], members: u64, target: u8, rights: u8, rounds: u32) -> u64 {
+pub extern "C" fn timing_tests(
+    bytes: &[u8],
+    members: u64,
+    target: u8,
+    rights: u8,
+    rounds: u32,
+) -> u64 {
     let loaded = image::read(bytes);
     let held = loaded.table;
-    let entry = Capability { target: target, rights: rights };
-    let list = EntryList { count: 1, entries: [entry; 8] };
+    let entry = Capability {
+        target: target,
+        rights: rights,
+    };
+    let list = EntryList {
+        count: 1,
+        entries: [entry; 8],
+    };
     let mut sum: u64 = 0;
     let mut k: u32 = 0;
     while k < rounds {
