@@ -1,0 +1,3 @@
+-- What the two walks share.
+pub mod Values
+pub mod Lies
