@@ -67,8 +67,10 @@ pub fn record_sound(r: Record) -> bool
 pub fn slot_sound(r: Record, born: bool, c: Capability) -> bool
     ensures { λ x. ⌜ x ≡ (idleSlotSound r c && filledSound born c) ⌝ }
 {
-    ((r.status == 1) | ((c.target == 0) & (c.rights == 0)))
-        & (((c.target == 0) & (c.rights == 0)) | (born & (1 <= c.rights) & (c.rights <= 15)))
+    if (c.target == 0) & (c.rights == 0) {
+        return true;
+    }
+    (r.status == 1) & (born & (1 <= c.rights) & (c.rights <= 15))
 }
 
 // The soundness scan of records and slots: it ends at the first offence. `taken` are the numbers that no further stock
