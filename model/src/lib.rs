@@ -6,6 +6,7 @@
 pub mod access;
 pub mod confine;
 pub mod confinement;
+pub mod definitions;
 pub mod generate;
 pub mod image;
 pub mod json;

@@ -5,6 +5,7 @@ use std::io::{self, Read, Write};
 use std::process::ExitCode;
 
 use yavrinks_model::confine::confine;
+use yavrinks_model::definitions::{self, Options};
 
 const HELP: &str = "\
 yavrinks-model: reference model of a capability table
@@ -14,6 +15,11 @@ Usage: yavrinks-model COMMAND
 Commands:
   confine   read an image, members and a list from standard input, and print
             `accepted` and the bound, one number a line, or `refused N`
+  definitions [--seed N] [--steps N] [--tests N] [--access N] [--images N]
+              [--keep DIR] [--root DIR]
+            check the definitions of the repository against the model, with the
+            toolchain's command `rt`; exit status 1 if an answer differs or
+            could not be checked
   help      print this text
 ";
 
@@ -23,6 +29,7 @@ fn main() -> ExitCode {
     let outcome = match words.as_slice() {
         [] | ["help" | "--help" | "-h"] => print(HELP),
         ["confine"] => run_confine(),
+        ["definitions", rest @ ..] => return run_definitions(rest),
         _ => {
             eprint!("unknown command: {}\n\n{HELP}", words.join(" "));
             return ExitCode::from(2);
@@ -41,6 +48,28 @@ fn run_confine() -> io::Result<()> {
     let mut input = Vec::new();
     io::stdin().read_to_end(&mut input)?;
     print(&confine(&input))
+}
+
+fn run_definitions(words: &[&str]) -> ExitCode {
+    let options = match Options::parse(words) {
+        Ok(options) => options,
+        Err(fault) => {
+            eprint!("yavrinks-model: {fault}\n\n{HELP}");
+            return ExitCode::from(2);
+        }
+    };
+    let outcome = definitions::run(&options).and_then(|outcome| {
+        print(&outcome.text)?;
+        Ok(outcome.agreed)
+    });
+    match outcome {
+        Ok(true) => ExitCode::SUCCESS,
+        Ok(false) => ExitCode::FAILURE,
+        Err(error) => {
+            eprintln!("yavrinks-model: {error}");
+            ExitCode::FAILURE
+        }
+    }
 }
 
 /// Unlike `print!`, gives a closed output back as an error instead of a panic.

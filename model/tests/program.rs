@@ -47,3 +47,17 @@ fn unknown_commands_fail() {
         assert!(output.stdout.is_empty());
     }
 }
+
+#[test]
+fn wrong_options_fail() {
+    for option in [&["--steps"][..], &["--steps", "many"], &["--colour", "1"]] {
+        let arguments = [&["definitions"], option].concat();
+        let output = run(&arguments, &[]);
+        assert_eq!(output.status.code(), Some(2));
+        assert!(output.stdout.is_empty());
+    }
+    let output = run(&["definitions", "--root", "/nowhere"], &[]);
+    assert_eq!(output.status.code(), Some(1));
+    let text = String::from_utf8(output.stderr).expect("text");
+    assert!(text.contains("no repository: /nowhere/crates.txt"));
+}

@@ -10,5 +10,7 @@ pub use confinement::{confinement_case, ConfinementCase, CONFINEMENT_NUMBERS};
 pub use images::{
     confine_input, encode_input, image_case, CONFINE_NUMBERS, IMAGE_NUMBERS, INPUT_COUNT_AT,
 };
-pub use requests::{any_request, can_meet, likely_request, step_case, StepCase};
-pub use tables::{any_damage, any_sound_table, damage, damaged_table, sound_table, Damage, Shape};
+pub use requests::{any_request, bounded_fields, can_meet, likely_request, step_case, StepCase};
+pub use tables::{
+    any_damage, any_sound_table, damage, damaged_table, numbers_where, sound_table, Damage, Shape,
+};

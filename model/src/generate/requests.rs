@@ -195,7 +195,7 @@ fn valid_list(rng: &mut Rng) -> Vec<Pair> {
 }
 
 /// The fields of a request that have a highest value, with that value. The actor is the first.
-fn bounded_fields(request: &mut Request) -> Vec<(&mut u8, u8)> {
+pub fn bounded_fields(request: &mut Request) -> Vec<(&mut u8, u8)> {
     match request {
         Request::Read { actor, t }
         | Request::Write { actor, t, .. }
