@@ -14,6 +14,8 @@ Usage: yavrinks-model COMMAND
 Commands:
   confine   read an image, members and a list from standard input, and print
             `accepted` and the bound, one number a line, or `refused N`
+  two-runs  try demand 3 on random pairs of runs, then on models with a broken
+            rule: [--seed N] [--pairs N] [--broken NAME]
   help      print this text
 ";
 
@@ -23,6 +25,7 @@ fn main() -> ExitCode {
     let outcome = match words.as_slice() {
         [] | ["help" | "--help" | "-h"] => print(HELP),
         ["confine"] => run_confine(),
+        ["two-runs", options @ ..] => return yavrinks_model::two_runs::command(options),
         _ => {
             eprint!("unknown command: {}\n\n{HELP}", words.join(" "));
             return ExitCode::from(2);
