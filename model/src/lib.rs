@@ -15,3 +15,4 @@ pub mod rng;
 pub mod set;
 pub mod step;
 pub mod table;
+pub mod two_runs;

@@ -20,6 +20,8 @@ Commands:
             check the definitions of the repository against the model, with the
             toolchain's command `rt`; exit status 1 if an answer differs or
             could not be checked
+  two-runs  try demand 3 on random pairs of runs, then on models with a broken
+            rule: [--seed N] [--pairs N] [--broken NAME]
   help      print this text
 ";
 
@@ -30,6 +32,7 @@ fn main() -> ExitCode {
         [] | ["help" | "--help" | "-h"] => print(HELP),
         ["confine"] => run_confine(),
         ["definitions", rest @ ..] => return run_definitions(rest),
+        ["two-runs", options @ ..] => return yavrinks_model::two_runs::command(options),
         _ => {
             eprint!("unknown command: {}\n\n{HELP}", words.join(" "));
             return ExitCode::from(2);

@@ -1,0 +1,178 @@
+//! The rules under which two runs are tried: those of document 01, or with one of them broken.
+//! `steps` and `bound` say what each rule does.
+
+/// What a fetch without rd makes of what it finds.
+#[derive(Clone, Copy, Debug, PartialEq, Eq)]
+pub enum Weakening {
+    /// As in document 01: wk alone if rd or wk was present, otherwise nothing.
+    ToWk,
+    /// No weakening.
+    None,
+    /// A right to read stays beside wk.
+    KeepsRd,
+    /// What was weakened once has rd again after the second time.
+    HandsRdBack,
+}
+
+/// Which numbers an allocate can make.
+#[derive(Clone, Copy, Debug, PartialEq, Eq)]
+pub enum Makes {
+    /// As in document 01: numbers of the actor's own stock.
+    OwnStock,
+    /// Also numbers that are in no stock.
+    OwnOrNoStock,
+    /// Any unborn number, whoever has it in stock.
+    AnyUnborn,
+}
+
+/// What the bound makes of the rights that go both ways.
+#[derive(Clone, Copy, Debug, PartialEq, Eq)]
+pub enum Access {
+    /// As in document 01: rd, wr and tx join holder and target, wk is one-way.
+    AsWritten,
+    /// rd is the same as wk: influence goes from the target to the holder alone.
+    ReadLikeWk,
+    /// rd passes on what the target holds, but no right over the target itself. This overlooks
+    /// only what the target makes later.
+    ReadHeldOnly,
+    /// wr and tx give influence on the target, but pass nothing on to it.
+    WriteOneWay,
+}
+
+/// Whose capabilities are looked at for check 13.
+#[derive(Clone, Copy, Debug, PartialEq, Eq)]
+pub enum Holders {
+    /// As in document 01: those of every non-member.
+    All,
+    /// Those of active non-members.
+    Active,
+}
+
+/// What the stand-in holds.
+#[derive(Clone, Copy, Debug, PartialEq, Eq)]
+pub enum StandIn {
+    /// As in document 01: exactly the list.
+    List,
+    /// What the members hold at the start.
+    Slots,
+}
+
+/// All rules that can be broken.
+#[derive(Clone, Copy, Debug, PartialEq, Eq)]
+pub struct Rules {
+    pub weakening: Weakening,
+    pub makes: Makes,
+    pub access: Access,
+    pub holders: Holders,
+    pub stand_in: StandIn,
+}
+
+impl Rules {
+    /// The rules of document 01.
+    pub const DOCUMENT: Rules = Rules {
+        weakening: Weakening::ToWk,
+        makes: Makes::OwnStock,
+        access: Access::AsWritten,
+        holders: Holders::All,
+        stand_in: StandIn::List,
+    };
+}
+
+/// A model with one rule broken.
+#[derive(Clone, Copy, Debug)]
+pub struct Broken {
+    /// The name by which the command knows it.
+    pub name: &'static str,
+    /// What it does.
+    pub says: &'static str,
+    pub rules: Rules,
+}
+
+/// The broken models. Each of them must be caught.
+pub const BROKEN: [Broken; 10] = [
+    Broken {
+        name: "fetch-not-weakened",
+        says: "a fetch through wk copies all rights",
+        rules: Rules {
+            weakening: Weakening::None,
+            ..Rules::DOCUMENT
+        },
+    },
+    Broken {
+        name: "weakening-keeps-rd",
+        says: "a fetch through wk copies rd too",
+        rules: Rules {
+            weakening: Weakening::KeepsRd,
+            ..Rules::DOCUMENT
+        },
+    },
+    Broken {
+        name: "second-fetch-gives-rd",
+        says: "a weakened capability, weakened again, has rd",
+        rules: Rules {
+            weakening: Weakening::HandsRdBack,
+            ..Rules::DOCUMENT
+        },
+    },
+    Broken {
+        name: "rd-one-way",
+        says: "the bound takes rd for wk",
+        rules: Rules {
+            access: Access::ReadLikeWk,
+            ..Rules::DOCUMENT
+        },
+    },
+    Broken {
+        name: "rd-held-only",
+        says: "the bound overlooks, with rd, what the target makes later",
+        rules: Rules {
+            access: Access::ReadHeldOnly,
+            ..Rules::DOCUMENT
+        },
+    },
+    Broken {
+        name: "wr-one-way",
+        says: "the bound overlooks that wr and tx lead back to the holder",
+        rules: Rules {
+            access: Access::WriteOneWay,
+            ..Rules::DOCUMENT
+        },
+    },
+    Broken {
+        name: "bound-from-slots",
+        says: "the bound goes by what the members hold, not by the list",
+        rules: Rules {
+            stand_in: StandIn::Slots,
+            ..Rules::DOCUMENT
+        },
+    },
+    Broken {
+        name: "passive-holders-skipped",
+        says: "check 13 looks at active holders alone",
+        rules: Rules {
+            holders: Holders::Active,
+            ..Rules::DOCUMENT
+        },
+    },
+    Broken {
+        name: "allocate-any-unborn",
+        says: "any unborn number can be made, out of any stock",
+        rules: Rules {
+            makes: Makes::AnyUnborn,
+            ..Rules::DOCUMENT
+        },
+    },
+    Broken {
+        name: "allocate-from-no-stock",
+        says: "a number that is in no stock can be made by anybody",
+        rules: Rules {
+            makes: Makes::OwnOrNoStock,
+            ..Rules::DOCUMENT
+        },
+    },
+];
+
+/// The broken model with this name.
+pub fn broken_model(name: &str) -> Option<&'static Broken> {
+    BROKEN.iter().find(|broken| broken.name == name)
+}
