@@ -49,7 +49,7 @@ fn wide(b: u8) -> u64
 }
 
 // The number that the bytes are, the most significant first.
-fn number_of(bytes: &[u8]) -> u64
+pub fn number_of(bytes: &[u8]) -> u64
     requires { ⌜ length (now bytes) ≤ 8 ⌝ }
     ensures { λ r. ⌜ r ≡ numberOf (now (bytes .entry)) ⌝ }
 {

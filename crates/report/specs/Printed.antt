@@ -27,17 +27,20 @@ refusedWord = 114 ∷ 101 ∷ 102 ∷ 117 ∷ 115 ∷ 101 ∷ 100 ∷ 32 ∷ []
 unfoldable pub decimal : ℕ → List ℕ
 decimal n = elim (ltb n 10) [ true ↦ (48 + n) ∷ [] | false ↦ (48 + n / 10) ∷ (48 + n % 10) ∷ [] ]
 
--- a line for each number of the set, of k numbers from n on
-unfoldable pub numberLines : ℕ → ℕ → ℕ → List ℕ
-numberLines set n zero = []
-numberLines set n (suc k) =
-    elim (has n set) [ true ↦ decimal n ++ (newline ∷ numberLines set (suc n) k) | false ↦ numberLines set (suc n) k ]
+-- a number's line
+abbrev pub numberLine : ℕ → List ℕ
+numberLine n = decimal n ++ (newline ∷ [])
+
+-- a line for each number of the set below n, "ascending, one a line"
+unfoldable pub numberLines : ℕ → ℕ → List ℕ
+numberLines set zero = []
+numberLines set (suc n) = numberLines set n ++ (elim (has n set) [ true ↦ numberLine n | false ↦ [] ])
 
 unfoldable pub refusedLine : ℕ → List ℕ
-refusedLine n = refusedWord ++ decimal n ++ (newline ∷ [])
+refusedLine n = refusedWord ++ numberLine n
 
 unfoldable pub acceptedLines : ℕ → List ℕ
-acceptedLines bound = acceptedWord ++ (newline ∷ numberLines bound 0 64)
+acceptedLines bound = (acceptedWord ++ (newline ∷ [])) ++ numberLines bound 64
 
 -- what is printed for a test's result
 unfoldable pub testLines : Tested → List ℕ
