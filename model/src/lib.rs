@@ -14,3 +14,4 @@ pub mod rng;
 pub mod set;
 pub mod step;
 pub mod table;
+pub mod vectors;

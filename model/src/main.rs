@@ -14,6 +14,9 @@ Usage: yavrinks-model COMMAND
 Commands:
   confine   read an image, members and a list from standard input, and print
             `accepted` and the bound, one number a line, or `refused N`
+  vectors DIR
+            write the cases and the expected output of the program `vectors`
+            into DIR, the folder of its crate
   help      print this text
 ";
 
@@ -23,6 +26,7 @@ fn main() -> ExitCode {
     let outcome = match words.as_slice() {
         [] | ["help" | "--help" | "-h"] => print(HELP),
         ["confine"] => run_confine(),
+        ["vectors", folder] => yavrinks_model::vectors::write(folder.as_ref()),
         _ => {
             eprint!("unknown command: {}\n\n{HELP}", words.join(" "));
             return ExitCode::from(2);
