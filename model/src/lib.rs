@@ -16,3 +16,4 @@ pub mod set;
 pub mod step;
 pub mod table;
 pub mod two_runs;
+pub mod vectors;

@@ -22,6 +22,9 @@ Commands:
             could not be checked
   two-runs  try demand 3 on random pairs of runs, then on models with a broken
             rule: [--seed N] [--pairs N] [--broken NAME]
+  vectors DIR
+            write the cases and the expected output of the program `vectors`
+            into DIR, the folder of its crate
   help      print this text
 ";
 
@@ -33,6 +36,7 @@ fn main() -> ExitCode {
         ["confine"] => run_confine(),
         ["definitions", rest @ ..] => return run_definitions(rest),
         ["two-runs", options @ ..] => return yavrinks_model::two_runs::command(options),
+        ["vectors", folder] => yavrinks_model::vectors::write(folder.as_ref()),
         _ => {
             eprint!("unknown command: {}\n\n{HELP}", words.join(" "));
             return ExitCode::from(2);

@@ -1,0 +1,50 @@
+-- `vectors::digest::of_rows` is safe and ends: the measure is the number of rows left. Assumes nothing.
+use Prim.Native.Nat.{_≤_, _-_}
+use borrow.Author.Needs.{needs}
+use Rattle.vectors.proofs.digest.of_rows.Statement.{statement}
+use Rattle.vectors.proofs.digest.of_rows.Tie as tie
+
+abbrev Inv-loop : tie.InvT-loop
+Inv-loop rows all₀ i₀ all i = i ≤ 256
+
+abbrev μ-loop : tie.MeasureT-loop
+μ-loop rows all₀ i₀ all i = 256 - i
+
+loop-holds : tie.Need-loop-holds Inv-loop μ-loop
+loop-holds c = search needs
+
+mul-with-number : tie.Need-mul-with-number Inv-loop μ-loop
+mul-with-number c = search needs
+
+array-read-with-number : tie.Need-array-read-with-number Inv-loop μ-loop
+array-read-with-number c = search needs
+
+with-number-requires : tie.Need-with-number-requires Inv-loop μ-loop
+with-number-requires c κs = search needs
+
+add-i : tie.Need-add-i Inv-loop μ-loop
+add-i c = search needs
+
+loop-less : tie.Need-loop-less Inv-loop μ-loop
+loop-less c = search needs
+
+loop-again : tie.Need-loop-again Inv-loop μ-loop
+loop-again c = search needs
+
+returns : tie.Need-returns Inv-loop μ-loop
+returns c = search needs
+
+pub of-rows-spec : {M : Type 1} → statement M
+of-rows-spec =
+    tie.close
+    (tie.spec
+    Inv-loop
+    μ-loop
+    loop-holds
+    mul-with-number
+    array-read-with-number
+    with-number-requires
+    add-i
+    loop-less
+    loop-again
+    returns)

@@ -1,0 +1,54 @@
+-- `vectors::digest::of_table` is safe and ends: the measure is the number of records left. Assumes nothing.
+use Prim.Native.Nat.{_≤_, _-_}
+use borrow.Author.Needs.{needs}
+use Rattle.vectors.proofs.digest.of_table.Statement.{statement}
+use Rattle.vectors.proofs.digest.of_table.Tie as tie
+
+abbrev Inv-loop : tie.InvT-loop
+Inv-loop records slots all₀ n₀ all n = n ≤ 64
+
+abbrev μ-loop : tie.MeasureT-loop
+μ-loop records slots all₀ n₀ all n = 64 - n
+
+loop-holds : tie.Need-loop-holds Inv-loop μ-loop
+loop-holds c = search needs
+
+mul-with-record : tie.Need-mul-with-record Inv-loop μ-loop
+mul-with-record c = search needs
+
+array-copy-out-with-record : tie.Need-array-copy-out-with-record Inv-loop μ-loop
+array-copy-out-with-record c = search needs
+
+with-record-requires : tie.Need-with-record-requires Inv-loop μ-loop
+with-record-requires c κs = search needs
+
+with-slots-requires : tie.Need-with-slots-requires Inv-loop μ-loop
+with-slots-requires c κs = search needs
+
+add-n : tie.Need-add-n Inv-loop μ-loop
+add-n c = search needs
+
+loop-less : tie.Need-loop-less Inv-loop μ-loop
+loop-less c = search needs
+
+loop-again : tie.Need-loop-again Inv-loop μ-loop
+loop-again c = search needs
+
+returns : tie.Need-returns Inv-loop μ-loop
+returns c = search needs
+
+pub of-table-spec : {M : Type 1} → statement M
+of-table-spec =
+    tie.close
+    (tie.spec
+    Inv-loop
+    μ-loop
+    loop-holds
+    mul-with-record
+    array-copy-out-with-record
+    with-record-requires
+    with-slots-requires
+    add-n
+    loop-less
+    loop-again
+    returns)

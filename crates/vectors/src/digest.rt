@@ -1,0 +1,87 @@
+// A short number for many bytes, so that a line can stand for a whole table, buffer or relation: a polynomial over the bytes,
+// modulo the largest prime below 2 ^ 32. One byte changed always changes it.
+use table::Capability;
+use table::Record;
+use table::Table;
+
+// The digest of no bytes.
+pub const START: u32 = 2166136261;
+
+// The digest with one more byte.
+fn with_byte(h: u32, b: u8) -> u32 {
+    (((h as u64 + b as u64) * 16777619 + 1) % 4294967291) as u32
+}
+
+// The byte of a number that stands `place` bytes above the lowest.
+fn byte_of(n: u64, place: u8) -> u8 {
+    ((n >> (8 * (place % 8))) % 256) as u8
+}
+
+// The digest with the lowest `size` bytes of a number, the most significant first.
+fn with_number(h: u32, n: u64, size: u8) -> u32 {
+    let mut all = h;
+    let mut left = size;
+    while 0 < left {
+        left = left - 1;
+        all = with_byte(all, byte_of(n, left));
+    }
+    all
+}
+
+fn with_record(h: u32, r: Record) -> u32 {
+    let a = with_byte(h, r.status);
+    let b = with_byte(a, r.kind);
+    let c = with_number(b, r.word as u64, 4);
+    with_number(c, r.stock, 8)
+}
+
+fn with_slot(h: u32, c: Capability) -> u32 {
+    with_byte(with_byte(h, c.target), c.rights)
+}
+
+// The digest with the eight slots of object n.
+fn with_slots(h: u32, slots: [Capability; 512], n: usize) -> u32 {
+    if 64 <= n {
+        return h;
+    }
+    let mut all = h;
+    let mut j: usize = 0;
+    while j < 8 {
+        all = with_slot(all, slots[n * 8 + j]);
+        j = j + 1;
+    }
+    all
+}
+
+// Record by record, each with its slots, as an image has them.
+pub fn of_table(t: Table) -> u32 {
+    let records = t.records;
+    let slots = t.slots;
+    let mut all = START;
+    let mut n: usize = 0;
+    while n < 64 {
+        all = with_slots(with_record(all, records[n]), slots, n);
+        n = n + 1;
+    }
+    all
+}
+
+pub fn of_space(bytes: &[u8; 4096]) -> u32 {
+    let mut all = START;
+    let mut i: usize = 0;
+    while i < 4096 {
+        all = with_byte(all, bytes[i]);
+        i = i + 1;
+    }
+    all
+}
+
+pub fn of_rows(rows: [u64; 256]) -> u32 {
+    let mut all = START;
+    let mut i: usize = 0;
+    while i < 256 {
+        all = with_number(all, rows[i], 8);
+        i = i + 1;
+    }
+    all
+}

@@ -1,0 +1,115 @@
+// Runs the proved code on the cases of data/, which the reference model makes, and prints what it answers, a line for each case.
+// The model also makes the expected output, so the gate compares two programs that share no code. The safety and the end of this
+// program are proved; what it prints is tested.
+use steps::Turn;
+
+mod digest; // digest.rt: a short number for a table, a buffer or a relation
+mod images; // images.rt: images read, and tables written
+mod input; // input.rt: tables, requests and lists out of a case's bytes
+mod output; // output.rt: the words and numbers of a line
+mod relations; // relations.rt: potential access
+mod steps; // steps.rt: requests
+mod verdicts; // verdicts.rt: confinement tests
+
+// What a file's cases are put to.
+enum Part {
+    Images,
+    Writes,
+    Steps,
+    Chain,
+    Lent,
+    Tests,
+    Relations,
+}
+
+// One case, or the end of the file. Only a chain uses and changes the table.
+fn turn(part: Part, fd: i32, number: u64, t: table::Table) -> Turn {
+    match part {
+        Part::Images => steps::kept(images::case(fd, number), t),
+        Part::Writes => steps::kept(images::raw_case(fd, number), t),
+        Part::Steps => steps::kept(steps::case(fd, number), t),
+        Part::Chain => steps::link(fd, number, t, false),
+        Part::Lent => steps::link(fd, number, t, true),
+        Part::Tests => steps::kept(verdicts::case(fd, number), t),
+        Part::Relations => steps::kept(relations::case(fd, number), t),
+    }
+}
+
+// Every case of a file; how many there were. A proved loop has to end, and nothing says that a file does, so a limit that no file
+// comes near stands in.
+fn cases(part: Part, fd: i32, start: table::Table) -> u64 {
+    let mut t = start;
+    let mut done: u64 = 0;
+    while done < 1000000 {
+        let next = turn(part, fd, done, t);
+        if !next.found {
+            return done;
+        }
+        let after = next.table;
+        t = after;
+        done = done + 1;
+    }
+    done
+}
+
+// The table that a chain starts from stands before its requests.
+fn start(part: Part, fd: i32) -> table::Table {
+    match part {
+        Part::Chain | Part::Lent => steps::chain_start(fd),
+        Part::Images | Part::Writes | Part::Steps | Part::Tests | Part::Relations =>
+            table::unborn_table(),
+    }
+}
+
+// A part: its heading, its cases, and their count.
+fn run(part: Part, path: &[u8], heading: &[u8]) {
+    output::text(heading);
+    let fd = os::open_read(path);
+    if fd < 0 {
+        os::fail(path);
+        return;
+    }
+    let first = start(part, fd);
+    let done = cases(part, fd, first);
+    libc::close(fd);
+    output::total(done);
+}
+
+fn main() {
+    run(
+        Part::Images,
+        b"images",
+        b"images: case, read: number, table; written back: number, buffer\n",
+    );
+    run(
+        Part::Writes,
+        b"writes",
+        b"tables written, sound or not: case, number, buffer\n",
+    );
+    run(Part::Steps, b"steps", b"steps: case, number, table after\n");
+    run(
+        Part::Chain,
+        b"chain",
+        b"chain on one table: case, number, table after\n",
+    );
+    run(
+        Part::Lent,
+        b"chain",
+        b"the same chain, the table lent: case, number, table after\n",
+    );
+    run(
+        Part::Chain,
+        b"edges",
+        b"edges of fields and lists, on one table: case, number, table after\n",
+    );
+    run(
+        Part::Tests,
+        b"tests",
+        b"confinement tests: case, number, bound\n",
+    );
+    run(
+        Part::Relations,
+        b"access",
+        b"potential access: case, number, relation\n",
+    );
+}

@@ -1,0 +1,32 @@
+// Potential access. A case is the 1,920 bytes of a table.
+use crate::digest;
+use crate::input;
+use crate::output;
+use access::AccessReply;
+
+fn access_number(reply: AccessReply) -> u64 {
+    match reply {
+        AccessReply::Done => 0,
+        AccessReply::TableUnsound => 1,
+    }
+}
+
+fn answer(number: u64, s: &[u8]) {
+    let found = access::potential_access(input::raw_table(s));
+    let reply = found.reply;
+    let rows = found.rows;
+    output::number(number);
+    output::number(access_number(reply));
+    output::digest(digest::of_rows(rows));
+    output::text(b"\n");
+}
+
+pub fn case(fd: i32, number: u64) -> bool {
+    let mut bytes = [0u8; 1920];
+    let got = io::read_full(fd, &mut bytes);
+    if got < 1920 {
+        return false;
+    }
+    answer(number, &bytes);
+    true
+}

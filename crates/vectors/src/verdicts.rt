@@ -1,0 +1,35 @@
+// Confinement tests. A case is the 1,920 bytes of a table, the members (8 bytes), and a list: a count and eight entries.
+use crate::input;
+use crate::output;
+use confinement::Verdict;
+
+fn verdict_number(verdict: Verdict) -> u64 {
+    match verdict {
+        Verdict::Accepted => 0,
+        Verdict::TableUnsound => 1,
+        Verdict::MembersInvalid => 10,
+        Verdict::ListInvalid => 11,
+        Verdict::RightUnlisted => 12,
+        Verdict::MemberHeld => 13,
+    }
+}
+
+fn answer(number: u64, s: &[u8]) {
+    let t = input::raw_table(s);
+    let tested = confinement::test(t, input::set(s, 1920), input::entry_list(s, 1928));
+    let verdict = tested.verdict;
+    output::number(number);
+    output::number(verdict_number(verdict));
+    output::set(tested.bound);
+    output::text(b"\n");
+}
+
+pub fn case(fd: i32, number: u64) -> bool {
+    let mut bytes = [0u8; 1945];
+    let got = io::read_full(fd, &mut bytes);
+    if got < 1945 {
+        return false;
+    }
+    answer(number, &bytes);
+    true
+}

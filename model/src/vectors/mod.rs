@@ -1,0 +1,92 @@
+//! The cases of the proved program `vectors`, and the output that is expected of it.
+//! Every case follows from a fixed seed, and every expected line from the model alone.
+
+mod chain;
+mod digest;
+mod edges;
+mod images;
+mod layout;
+mod relations;
+mod steps;
+mod verdicts;
+
+use std::fs;
+use std::io;
+use std::path::Path;
+
+pub use chain::{chain, Chain};
+pub use edges::edges;
+pub use images::{image_cases, write_cases, ImageCase, WriteCase};
+pub use relations::access_cases;
+pub use steps::step_cases;
+pub use verdicts::test_cases;
+
+/// One file of cases, with the lines that the program is to print for them.
+pub struct Part {
+    /// The name of the file in `data`.
+    pub file: &'static str,
+    /// The line before the cases.
+    pub heading: &'static str,
+    /// The bytes of the file.
+    pub data: Vec<u8>,
+    /// What is printed after the number of each case.
+    pub answers: Vec<String>,
+}
+
+impl Part {
+    /// A part without cases.
+    fn new(file: &'static str, heading: &'static str) -> Part {
+        Part {
+            file,
+            heading,
+            data: Vec::new(),
+            answers: Vec::new(),
+        }
+    }
+
+    /// Adds a case: its bytes and its answer.
+    fn add(&mut self, bytes: &[u8], answer: String) {
+        self.data.extend(bytes);
+        self.answers.push(answer);
+    }
+
+    /// The printed text: the heading, a line for each case, the count and an empty line.
+    fn text(&self) -> String {
+        let mut text = format!("{}\n", self.heading);
+        for (number, answer) in self.answers.iter().enumerate() {
+            text.push_str(&format!("{number} {answer}\n"));
+        }
+        text.push_str(&format!("{} cases\n\n", self.answers.len()));
+        text
+    }
+}
+
+/// All parts, in the order in which the program runs them.
+pub fn parts() -> Vec<Part> {
+    vec![
+        images::part(),
+        images::writes_part(),
+        steps::part(),
+        chain::part(),
+        chain::lent_part(),
+        edges::part(),
+        verdicts::part(),
+        relations::part(),
+    ]
+}
+
+/// The whole output of the program.
+pub fn output(parts: &[Part]) -> String {
+    parts.iter().map(Part::text).collect()
+}
+
+/// Writes `data` and `stdout` into the folder of the program's crate.
+pub fn write(crate_folder: &Path) -> io::Result<()> {
+    let parts = parts();
+    let data = crate_folder.join("data");
+    fs::create_dir_all(&data)?;
+    for part in &parts {
+        fs::write(data.join(part.file), &part.data)?;
+    }
+    fs::write(crate_folder.join("stdout"), output(&parts))
+}
