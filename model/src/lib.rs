@@ -4,6 +4,7 @@
 #![forbid(unsafe_code)]
 
 pub mod access;
+pub mod built_program;
 pub mod confine;
 pub mod confinement;
 pub mod definitions;

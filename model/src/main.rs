@@ -20,6 +20,9 @@ Commands:
             check the definitions of the repository against the model, with the
             toolchain's command `rt`; exit status 1 if an answer differs or
             could not be checked
+  program PATH
+            run the built program `confine` at PATH on the test vectors, on random
+            inputs and on inputs of odd lengths, and compare what it prints
   two-runs  try demand 3 on random pairs of runs, then on models with a broken
             rule: [--seed N] [--pairs N] [--broken NAME]
   vectors DIR
@@ -35,6 +38,7 @@ fn main() -> ExitCode {
         [] | ["help" | "--help" | "-h"] => print(HELP),
         ["confine"] => run_confine(),
         ["definitions", rest @ ..] => return run_definitions(rest),
+        ["program", path] => return yavrinks_model::built_program::command(path),
         ["two-runs", options @ ..] => return yavrinks_model::two_runs::command(options),
         ["vectors", folder] => yavrinks_model::vectors::write(folder.as_ref()),
         _ => {
