@@ -1,11 +1,10 @@
 -- Document 01: "It prints `accepted` and then each bound object's number, decimal, ascending, one a line; or `refused N`."
 -- 17 is checked first, then the image's refusals, then the test's.
-use mathlib.Core.Bool.{Bool, true, false}
+use mathlib.Core.Bool.{true, false}
 use mathlib.Core.List.{List, [], _∷_, _++_}
 use Prim.Native.Nat.{ℕ, zero, suc, _+_, _/_, _%_}
 use lib.Dec.{ltb, eqb}
 use Rattle.mask.specs.Sets.{has}
-use Rattle.table.specs.declared.Table.{Table}
 use Rattle.image.specs.Images.{readOf, readNumber}
 use Rattle.confinement.specs.Refusals.{verdictNumber}
 use Rattle.confinement.specs.Tests.{testOf}
