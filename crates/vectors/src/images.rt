@@ -4,7 +4,6 @@ use crate::digest;
 use crate::input;
 use crate::output;
 use image::Loaded;
-use image::ReadReply;
 use image::WriteReply;
 use table::Table;
 ghost use mathlib.Core.Path.{_≡_};
@@ -15,15 +14,6 @@ fn untouched() -> [u8; 4096]
     ensures { λ r. ⌜ 4096 ≡ length r ⌝ }
 {
     [0xA5; 4096]
-}
-
-fn read_number(reply: ReadReply) -> u64 {
-    match reply {
-        ReadReply::Done => 0,
-        ReadReply::TableUnsound => 1,
-        ReadReply::LengthWrong => 14,
-        ReadReply::VersionWrong => 15,
-    }
 }
 
 fn write_number(reply: WriteReply) -> u64 {
@@ -47,7 +37,7 @@ fn read(fd: i32, length: u16) -> Table {
     let loaded = load(fd, &mut space[..n]);
     let reply = loaded.reply;
     let t = loaded.table;
-    output::number(read_number(reply));
+    output::number(report::read_number(reply) as u64);
     output::digest(digest::of_table(t));
     t
 }

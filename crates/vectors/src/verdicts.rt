@@ -1,25 +1,13 @@
 // Confinement tests. A case is the 1,920 bytes of a table, the members (8 bytes), and a list: a count and eight entries.
 use crate::input;
 use crate::output;
-use confinement::Verdict;
-
-fn verdict_number(verdict: Verdict) -> u64 {
-    match verdict {
-        Verdict::Accepted => 0,
-        Verdict::TableUnsound => 1,
-        Verdict::MembersInvalid => 10,
-        Verdict::ListInvalid => 11,
-        Verdict::RightUnlisted => 12,
-        Verdict::MemberHeld => 13,
-    }
-}
 
 fn answer(number: u64, s: &[u8]) {
     let t = input::raw_table(s);
     let tested = confinement::test(t, input::set(s, 1920), input::entry_list(s, 1928));
     let verdict = tested.verdict;
     output::number(number);
-    output::number(verdict_number(verdict));
+    output::number(report::verdict_number(verdict) as u64);
     output::set(tested.bound);
     output::text(b"\n");
 }
