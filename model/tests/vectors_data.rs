@@ -37,6 +37,8 @@ fn images_are_half_whole_and_reach_every_refusal() {
     let numbers = cases.iter().map(|case| read(&case.image).0);
     expect(&counts(numbers), &[(0, 100), (1, 48), (14, 40), (15, 15)]);
     assert!(cases.len() >= 220);
+    let whole = cases.iter().filter(|case| read(&case.image).0 == 0);
+    assert_eq!(2 * whole.count(), cases.len());
     let written = cases
         .iter()
         .map(|case| write(&read(&case.image).1, &mut vec![0; case.room]));

@@ -35,8 +35,8 @@ pub fn image_cases() -> Vec<ImageCase> {
     for kind in Damage::ALL {
         images.extend((0..3).map(|_| encode(&damaged_table(&mut rng, kind))));
     }
-    images.extend((0..24).map(|_| image_case(&mut rng, 14)));
-    images.extend((0..12).map(|_| image_case(&mut rng, 15)));
+    images.extend((0..27).map(|_| image_case(&mut rng, 14)));
+    images.extend((0..15).map(|_| image_case(&mut rng, 15)));
     images.extend(cut_images(&mut rng));
     images.extend(changed_heads(&mut rng));
     let rooms = ROOMS.into_iter().cycle();
