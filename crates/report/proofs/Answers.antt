@@ -23,7 +23,7 @@ use Rattle.confinement.specs.Refusals.{verdictNumber}
 use Rattle.confinement.specs.Tests.{testOf}
 use Rattle.report.specs.Input.{countOf, wrongLength, imagePart, membersOf, listOf}
 use Rattle.report.specs.Printed.{refusedLine, acceptedLines, testLines, loadedLines, printedOf}
-use Rattle.report.proofs.Inputs.{test-held}
+use Rattle.report.proofs.Inputs.{test-held, list-length}
 
 -- every number has at most two digits
 pub verdict-small : (v : Verdict) → verdictNumber v < 100
@@ -61,7 +61,7 @@ module _ (l : Loaded) (input : List ℕ) (why : ℕ) (e : why ≡ readNumber (l 
       → (r : Tested) → r ≡ testOf (l .table) members (entriesOf list) → loadedLines l input ≡ testLines r
   unfolding loadedLines membersOf
   loaded-tested z members m list c same r f =
-      let s = f ∙ test-held (l .table) members list input c same ∙ ap (λ (x : ℕ). testOf (l .table) x (listOf input)) m in
+      let s = f ∙ test-held (l .table) members list (listOf input) (λ h. omega (arith, list-length input)) same ∙ ap (λ (x : ℕ). testOf (l .table) x (listOf input)) m in
       rw (← e, eq-eqb why 0 z, loadedLines) (ap testLines (sym s))
 
 -- any input

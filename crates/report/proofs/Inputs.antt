@@ -7,8 +7,8 @@ use mathlib.Core.List.{List}
 use Prim.Native.Nat.{ℕ, _+_, _*_, _≤_, _<_}
 use native.Mathlib.Omega.{arith}
 use lib.Dec.{ltb}
-use lib.ListN.{length, getD, take, List·getD-eq-default}
-use lib.Seq.{take-all, getD-take}
+use lib.ListN.{length, getD, take, drop, List·getD-eq-default}
+use lib.Seq.{getD-take}
 use borrow.Author.Tests.{ltb-true, ltb-false, eqb-true, ne-eqb, not-false}
 use Rattle.mask.proofs.Tests.{byCases}
 use Rattle.table.specs.declared.Capability.{Capability}
@@ -25,8 +25,7 @@ use Rattle.confinement.specs.Refusals.{badMembers}
 use Rattle.confinement.specs.Tests.{testOf}
 use Rattle.confinement.proofs.Scans.{list-long}
 use Rattle.confinement.proofs.Verdicts.{test-1, test-10, test-11}
-use Rattle.report.specs.Input.{fixedLength, countOf, wrongLength, listOf}
-use Rattle.report.specs.Parts.{entryFrom}
+use Rattle.report.specs.Input.{fixedLength, countOf, wrongLength, entryIn, listOf}
 
 -- the length ---------------------------------------------------------------------------
 pub length-short : (input : List ℕ) → length input < fixedLength → wrongLength input ≡ true
@@ -40,20 +39,18 @@ unfolding wrongLength
 length-right input e = eqb-true (length input) _ (not-false _ e)
 
 -- the list -----------------------------------------------------------------------------
-pub list-read : (input : List ℕ) (entries : List Capability) → take (countOf input) entries ≡ tabulate (countOf input) (entryFrom input)
-    → entriesOf (record { count = countOf input; entries = entries }) ≡ listOf input
-unfolding entriesOf listOf entryFrom
-list-read input entries e =
-    let n = countOf input in
-    tabulate-is n _ emptySlot (tabulate n (entryFrom input)) (length-tabulate n (entryFrom input))
+-- entries that were read from bytes, with their number
+pub list-read : (bytes : List ℕ) (n : ℕ) (entries : List Capability) → take n entries ≡ tabulate n (entryIn bytes)
+    → entriesOf (record { count = n; entries = entries }) ≡ tabulate n (entryIn bytes)
+unfolding entriesOf
+list-read bytes n entries e =
+    tabulate-is n _ emptySlot (tabulate n (entryIn bytes)) (length-tabulate n (entryIn bytes))
     (λ k h. sym (getD-take n entries k emptySlot h) ∙ ap (λ (l : List Capability). getD l k emptySlot) e)
 
--- the list that was sent is itself one that is held, eight entries or more
-list-sent : (input : List ℕ) → entriesOf (record { count = countOf input; entries = listOf input }) ≡ listOf input
-unfolding listOf entryFrom
-list-sent input =
-    let n = countOf input in
-    list-read input (listOf input) (take-all n (tabulate n (entryFrom input)) (omega (arith, length-tabulate n (entryFrom input))))
+-- a list is itself one that is held, eight entries or more
+list-whole : (list : List Capability) → entriesOf (record { count = length list; entries = list }) ≡ list
+unfolding entriesOf
+list-whole list = tabulate-is (length list) _ emptySlot list refl (λ k h. refl)
 
 -- lists above eight are answered alike, whatever their entries
 test-long : (t : Table) (members : ℕ) (a b : EntryList) → 8 < a .count → 8 < b .count → testOf t members (entriesOf a) ≡ testOf t members (entriesOf b)
@@ -66,10 +63,15 @@ test-long t members a b ha hb =
     ∙ test-11 t members (entriesOf b) _ refl s _ refl m o refl true (list-long o b hb) refl))
     (λ s. sym (test-1 t members (entriesOf a) _ refl s) ∙ test-1 t members (entriesOf b) _ refl s)
 
-pub test-held : (t : Table) (members : ℕ) (l : EntryList) (input : List ℕ) → l .count ≡ countOf input → (l .count ≤ 8 → entriesOf l ≡ listOf input)
-    → testOf t members (entriesOf l) ≡ testOf t members (listOf input)
-test-held t members l input e same =
+-- a list that is held whole where it has eight entries at most, and by its count alone where it has more
+pub test-held : (t : Table) (members : ℕ) (l : EntryList) (list : List Capability) → (8 < l .count → 8 < length list) → (l .count ≤ 8 → entriesOf l ≡ list)
+    → testOf t members (entriesOf l) ≡ testOf t members list
+test-held t members l list long same =
     byCases (ltb 8 (l .count))
-    (λ q. let h = ltb-true 8 (l .count) q in
-    test-long t members l (record { count = countOf input; entries = listOf input }) h (omega arith) ∙ ap (testOf t members) (list-sent input))
+    (λ q. let h = ltb-true 8 (l .count) q in test-long t members l (record { count = length list; entries = list }) h (long h) ∙ ap (testOf t members) (list-whole list))
     (λ q. ap (testOf t members) (same (ltb-false 8 (l .count) q)))
+
+-- the list of an input has as many entries as the count says
+pub list-length : (input : List ℕ) → length (listOf input) ≡ countOf input
+unfolding listOf
+list-length input = length-tabulate (countOf input) (entryIn (drop fixedLength input))

@@ -27,6 +27,9 @@ imagePart input = take imageLength input
 unfoldable pub membersOf : List ℕ → ℕ
 membersOf input = numberOf (take 8 (drop imageLength input))
 
+-- entry k of bytes that hold two for each entry
+unfoldable pub entryIn : List ℕ → ℕ → Capability
+entryIn bytes k = record { target = byteAt bytes (2 * k); rights = byteAt bytes (2 * k + 1) }
+
 unfoldable pub listOf : List ℕ → List Capability
-listOf input = tabulate (countOf input)
-    (λ k. record { target = byteAt input (fixedLength + 2 * k); rights = byteAt input (fixedLength + 2 * k + 1) })
+listOf input = tabulate (countOf input) (entryIn (drop fixedLength input))

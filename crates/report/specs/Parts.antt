@@ -1,12 +1,9 @@
 -- The parts of what is printed that the code's helpers promise. They add nothing to what is printed.
 use mathlib.Core.Bool.{true, false}
 use mathlib.Core.List.{List, [], _++_}
-use Prim.Native.Nat.{ℕ, _+_, _*_}
+use Prim.Native.Nat.{ℕ, _+_}
 use lib.ListN.{length, take, drop}
 use Rattle.mask.specs.Sets.{has}
-use Rattle.table.specs.declared.Capability.{Capability}
-use Rattle.image.specs.Layout.{byteAt}
-use Rattle.report.specs.Input.{fixedLength}
 use Rattle.report.specs.Printed.{numberLine}
 
 -- the buffer with the bytes put at a place
@@ -20,7 +17,3 @@ begun out bytes = bytes ++ drop (length bytes) out
 -- the line of a number of the set, and nothing for any other
 unfoldable pub lineIf : ℕ → ℕ → List ℕ
 lineIf set n = elim (has n set) [ true ↦ numberLine n | false ↦ [] ]
-
--- entry k of the list, the count not asked
-unfoldable pub entryFrom : List ℕ → ℕ → Capability
-entryFrom input k = record { target = byteAt input (fixedLength + 2 * k); rights = byteAt input (fixedLength + 2 * k + 1) }

@@ -16,9 +16,9 @@ ghost use Rattle.table.specs.Lists.{tabulate};
 ghost use Rattle.confinement.specs.Refusals.{verdictNumber};
 ghost use Rattle.confinement.specs.StandIn.{entriesOf};
 ghost use Rattle.image.specs.Images.{readNumber};
-ghost use Rattle.report.specs.Input.{fixedLength, countOf, wrongLength, listOf};
+ghost use Rattle.report.specs.Input.{fixedLength, countOf, wrongLength, entryIn, listOf};
 ghost use Rattle.report.specs.Printed.{testLines, loadedLines, printedOf};
-ghost use Rattle.report.specs.Parts.{begun, entryFrom};
+ghost use Rattle.report.specs.Parts.{begun};
 
 // A refusal of the test by its number.
 pub fn verdict_number(v: Verdict) -> u8
@@ -56,10 +56,10 @@ fn wrong_length(input: &[u8]) -> bool
     input.len() != 1932 + 2 * (input[1931] as usize)
 }
 
-// The first n entries of the list.
-fn read_entries(input: &[u8], n: usize) -> [Capability; 8]
-    requires { ⌜ (n ≤ 8) × (fixedLength + 2 * n ≤ length (now input)) ⌝ }
-    ensures { λ r. ⌜ take n r ≡ tabulate n (entryFrom (now (input .entry))) ⌝ }
+// The first n entries of bytes that hold two for each: target, rights.
+pub fn entries_in(bytes: &[u8], n: usize) -> [Capability; 8]
+    requires { ⌜ (n ≤ 8) × (2 * n ≤ length (now bytes)) ⌝ }
+    ensures { λ r. ⌜ take n r ≡ tabulate n (entryIn (now (bytes .entry))) ⌝ }
 {
     let nothing = Capability {
         target: 0,
@@ -69,8 +69,8 @@ fn read_entries(input: &[u8], n: usize) -> [Capability; 8]
     let mut k: usize = 0;
     while k < n {
         entries[k] = Capability {
-            target: input[1932 + 2 * k],
-            rights: input[1932 + 2 * k + 1],
+            target: bytes[2 * k],
+            rights: bytes[2 * k + 1],
         };
         k = k + 1;
     }
@@ -85,13 +85,13 @@ fn read_list(input: &[u8]) -> EntryList
 {
     let count = input[1931];
     if 8 < count {
-        let first = read_entries(input, 8);
+        let first = entries_in(&input[1932..], 8);
         return EntryList {
             count: count,
             entries: first,
         };
     }
-    let all = read_entries(input, count as usize);
+    let all = entries_in(&input[1932..], count as usize);
     EntryList {
         count: count,
         entries: all,
