@@ -1,0 +1,53 @@
+-- `wire::plain_in` meets its contract, by the code: each field is the byte at its place. Assumes nothing.
+use mathlib.Core.Path.{_∙_}
+use Rattle.wire.proofs.Fields.{read-made, fetch-made, store-made, revoke-made, destroy-made, unknown-made}
+use borrow.Author.Needs.{needs}
+use Rattle.wire.proofs.plain_in.Statement.{statement}
+use Rattle.wire.proofs.plain_in.Tie as tie
+
+byte-at-requires : tie.Need-byte-at-requires
+byte-at-requires c κs = search needs
+
+byte-at-requires-2 : tie.Need-byte-at-requires-2
+byte-at-requires-2 c κs = search needs
+
+byte-at-requires-3 : tie.Need-byte-at-requires-3
+byte-at-requires-3 c κs = search needs
+
+byte-at-requires-4 : tie.Need-byte-at-requires-4
+byte-at-requires-4 c κs = search needs
+
+returns : tie.Need-returns
+returns c = read-made (c .before .before .before .before .before .before .args .bytes .now) _ _ (c .before .before .before .before .byte-at .ensures) (c .before .before .before .byte-at2 .ensures) (c .before .before .before .before .before .before .pre .0 ∙ c .match .keys1)
+
+returns-2 : tie.Need-returns-2
+returns-2 c = fetch-made (c .before .before .before .before .before .before .args .bytes .now) _ _ (c .before .before .before .before .byte-at .ensures) (c .before .before .before .byte-at2 .ensures) (c .before .before .before .before .before .before .pre .0 ∙ c .match .keys2) _ _ (c .before .before .byte-at3 .ensures) (c .before .byte-at4 .ensures)
+
+returns-3 : tie.Need-returns-3
+returns-3 c = store-made (c .before .before .before .before .before .before .args .bytes .now) _ _ (c .before .before .before .before .byte-at .ensures) (c .before .before .before .byte-at2 .ensures) (c .before .before .before .before .before .before .pre .0 ∙ c .match .keys3) _ _ (c .before .before .byte-at3 .ensures) (c .before .byte-at4 .ensures)
+
+returns-4 : tie.Need-returns-4
+returns-4 c = revoke-made (c .before .before .before .before .before .before .args .bytes .now) _ _ (c .before .before .before .before .byte-at .ensures) (c .before .before .before .byte-at2 .ensures) (c .before .before .before .before .before .before .pre .0 ∙ c .match .keys4) _ (c .before .before .byte-at3 .ensures)
+
+returns-5 : tie.Need-returns-5
+returns-5 c = destroy-made (c .before .before .before .before .before .before .args .bytes .now) _ _ (c .before .before .before .before .byte-at .ensures) (c .before .before .before .byte-at2 .ensures) (c .before .before .before .before .before .before .pre .0 ∙ c .match .keys5)
+
+returns-6 : tie.Need-returns-6
+returns-6 c = let p = c .before .before .before .before .before .before .pre in
+    let r = c .match .rest in
+    unknown-made (c .before .before .before .before .before .before .args .bytes .now) _ _ (c .before .before .before .before .byte-at .ensures) (p .0) (r .0 .0 .0 .0 .1) (p .1) (r .0 .0 .0 .1) (r .0 .0 .1) (r .0 .1) (p .2) (p .3) (r .1)
+
+pub plain-in-spec : {M : Type 1} → statement M
+plain-in-spec =
+    tie.close
+    (tie.spec
+    byte-at-requires
+    byte-at-requires-2
+    byte-at-requires-3
+    byte-at-requires-4
+    returns
+    returns-2
+    returns-3
+    returns-4
+    returns-5
+    returns-6)

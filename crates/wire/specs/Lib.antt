@@ -1,0 +1,2 @@
+-- A request as bytes.
+pub mod Wires
