@@ -1,0 +1,26 @@
+-- `captable::captable_stepped` meets its contract. Assumes nothing.
+use mathlib.Core.Path.{_∙_, ap}
+use Prim.Native.Nat.{ℕ}
+use Rattle.requests.specs.Steps.{stepOf}
+use Rattle.captable.specs.Crossing.{stepped}
+use borrow.Author.Needs.{needs}
+use Rattle.captable.proofs.captable_stepped.Statement.{statement}
+use Rattle.captable.proofs.captable_stepped.Tie as tie
+
+request-in-requires : tie.Need-request-in-requires
+request-in-requires c κs = search needs
+
+step-requires : tie.Need-step-requires
+step-requires c κs = search needs
+
+reply-number-requires : tie.Need-reply-number-requires
+reply-number-requires c κs = search needs
+
+returns : tie.Need-returns
+returns c = let t = c .before .before .before .before .before .before .args .table in
+    ap (λ (n : ℕ). record { number = n; table = c .before .before .step .result .table }) (c .reply-number .ensures)
+    ∙ ap stepped (c .before .before .step .ensures ∙ ap (stepOf t) (c .before .before .before .before .request-in .ensures))
+
+pub captable-stepped-spec : {M : Type 1} → statement M
+captable-stepped-spec =
+    tie.close (tie.spec request-in-requires step-requires reply-number-requires returns)

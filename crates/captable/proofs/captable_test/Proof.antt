@@ -1,0 +1,28 @@
+-- `captable::captable_test` meets its contract: the list that is held is answered as the one of the bytes. Assumes nothing.
+use mathlib.Core.Path.{_∙_, ap}
+use Prim.Native.Nat.{ℕ}
+use Rattle.report.proofs.Inputs.{test-held}
+use Rattle.captable.specs.Crossing.{found, listIn}
+use borrow.Author.Needs.{needs}
+use Rattle.captable.proofs.captable_test.Statement.{statement}
+use Rattle.captable.proofs.captable_test.Tie as tie
+
+list-of-requires : tie.Need-list-of-requires
+list-of-requires c κs = search needs
+
+test-requires : tie.Need-test-requires
+test-requires c κs = search needs
+
+verdict-number-requires : tie.Need-verdict-number-requires
+verdict-number-requires c κs = search needs
+
+returns : tie.Need-returns
+returns c = let a = c .before .before .before .before .args in
+    let l = c .before .before .list-of in
+    let t = c .before .test in
+    ap (λ (n : ℕ). record { number = n; bound = t .result .bound }) (c .verdict-number .ensures)
+    ∙ ap found (t .ensures ∙ test-held (a .table) (a .members) (l .result) (listIn (a .list .now)) (l .ensures .0) (l .ensures .1))
+
+pub captable-test-spec : {M : Type 1} → statement M
+captable-test-spec =
+    tie.close (tie.spec list-of-requires test-requires verdict-number-requires returns)

@@ -1,0 +1,21 @@
+-- `captable::captable_write` meets its contract. Assumes nothing.
+use mathlib.Core.Path.{_∙_, ap}
+use Rattle.image.specs.Images.{writeNumber}
+use borrow.Author.Needs.{needs}
+use Rattle.captable.proofs.captable_write.Statement.{statement}
+use Rattle.captable.proofs.captable_write.Tie as tie
+
+write-requires : tie.Need-write-requires
+write-requires c κs = search needs
+
+write-number-requires : tie.Need-write-number-requires
+write-number-requires c κs = search needs
+
+same-length : tie.Need-same-length
+same-length c = search needs
+
+returns : tie.Need-returns
+returns c = (c .write-number .ensures ∙ ap writeNumber (c .before .before .before .write .ensures .0), c .before .before .before .write .ensures .1)
+
+pub captable-write-spec : {M : Type 1} → statement M
+captable-write-spec = tie.close (tie.spec write-requires write-number-requires same-length returns)

@@ -1,0 +1,43 @@
+-- What crosses to C and Rust: every answer by document 01's number, 0 for done, with what goes with it; lists as bytes.
+use mathlib.Core.Bool.{true, false, cond}
+use mathlib.Core.List.{List}
+use Prim.Native.Nat.{ℕ, _/_, _%_}
+use lib.Dec.{eqb}
+use lib.ListN.{length, replicate}
+use Rattle.table.specs.declared.Capability.{Capability}
+use Rattle.table.specs.declared.Table.{Table}
+use Rattle.table.specs.Cells.{emptySlot}
+use Rattle.table.specs.Lists.{tabulate}
+use Rattle.table.specs.Soundness.{sound}
+use Rattle.requests.specs.declared.Stepped.{Stepped}
+use Rattle.requests.specs.Replies.{number}
+use Rattle.access.specs.declared.Access.{Access}
+use Rattle.access.specs.Answers.{accessNumber}
+use Rattle.confinement.specs.declared.Tested.{Tested}
+use Rattle.confinement.specs.Refusals.{verdictNumber}
+use Rattle.image.specs.declared.Loaded.{Loaded}
+use Rattle.image.specs.Images.{readNumber}
+use Rattle.report.specs.Input.{entryIn}
+use Rattle.captable.specs.declared.Outcome.{Outcome}
+use Rattle.captable.specs.declared.Relation.{Relation}
+use Rattle.captable.specs.declared.Finding.{Finding}
+
+abbrev pub soundNumber : Table → ℕ
+soundNumber t = cond (sound t) 0 1
+
+abbrev pub stepped : Stepped → Outcome
+stepped s = record { number = number (s .reply); table = s .table }
+
+abbrev pub related : Access → Relation
+related a = record { number = accessNumber (a .reply); rows = a .rows }
+
+abbrev pub found : Tested → Finding
+found r = record { number = verdictNumber (r .verdict); bound = r .bound }
+
+abbrev pub loaded : Loaded → Outcome
+loaded l = record { number = readNumber (l .reply); table = l .table }
+
+-- the list that bytes are: target and rights of each entry in turn. Where a byte is left over they are no list, and count as one that
+-- is too long
+unfoldable pub listIn : List ℕ → List Capability
+listIn bytes = elim (eqb (length bytes % 2) 0) [ true ↦ tabulate (length bytes / 2) (entryIn bytes) | false ↦ replicate 9 emptySlot ]

@@ -1,0 +1,211 @@
+// The proved table as the case's firmware links it from C or Rust. Everything that crosses is a number, a slice of bytes (its
+// pointer, then its length) or a struct of document 01's fields. The step has its table lent; the other calls take the table by
+// value, so that nothing can change it between their checks and their answer. Every answer is document 01's number, 0 for done.
+use access::AccessReply;
+use confinement::EntryList;
+use image::WriteReply;
+use requests::Reply;
+use table::Capability;
+use table::Table;
+ghost use mathlib.Core.Path.{_≡_};
+ghost use Prim.Native.Nat.{_≤_, _<_};
+ghost use lib.ListN.{length};
+ghost use Rattle.requests.specs.Replies.{number as replyNumber};
+ghost use Rattle.requests.specs.Steps.{stepOf};
+ghost use Rattle.access.specs.Answers.{accessNumber, accessOf};
+ghost use Rattle.confinement.specs.StandIn.{entriesOf};
+ghost use Rattle.confinement.specs.Tests.{testOf};
+ghost use Rattle.image.specs.Images.{writeNumber, readOf, writeRefusal, writtenOf};
+ghost use Rattle.wire.specs.Wires.{askFrom};
+ghost use Rattle.captable.specs.Crossing.{soundNumber, stepped, related, found, loaded, listIn};
+
+// A number and a table: the table that a step or a reading of an image gives.
+#[repr(C)]
+pub struct Outcome {
+    pub number: u8,
+    pub table: Table,
+}
+
+// Potential access: the row at 64 * right + holder has the numbers over which the holder has the right, rights in the order rd, wr,
+// wk, tx.
+#[repr(C)]
+pub struct Relation {
+    pub number: u8,
+    pub rows: [u64; 256],
+}
+
+// What the test found: the bound is empty on every refusal.
+#[repr(C)]
+pub struct Finding {
+    pub number: u8,
+    pub bound: u64,
+}
+
+// A reply by its number.
+fn reply_number(r: Reply) -> u8
+    ensures { λ n. ⌜ n ≡ replyNumber r ⌝ }
+{
+    match r {
+        Reply::Done => 0,
+        Reply::TableUnsound => 1,
+        Reply::FieldInvalid => 2,
+        Reply::ActorUnfit => 3,
+        Reply::SlotEmpty => 4,
+        Reply::TargetDead => 5,
+        Reply::RightAbsent => 6,
+        Reply::TargetPassive => 7,
+        Reply::ActorItself => 8,
+        Reply::NotInStock => 9,
+    }
+}
+
+// An answer of potential access by its number.
+fn access_number(r: AccessReply) -> u8
+    ensures { λ n. ⌜ n ≡ accessNumber r ⌝ }
+{
+    match r {
+        AccessReply::Done => 0,
+        AccessReply::TableUnsound => 1,
+    }
+}
+
+// An answer of writing by its number.
+fn write_number(r: WriteReply) -> u8
+    ensures { λ n. ⌜ n ≡ writeNumber r ⌝ }
+{
+    match r {
+        WriteReply::Done => 0,
+        WriteReply::TableUnsound => 1,
+        WriteReply::BufferShort => 16,
+    }
+}
+
+// 0 for a sound table, 1 for any other.
+#[no_mangle]
+pub extern "C" fn captable_sound(table: Table) -> u8
+    ensures { λ r. ⌜ r ≡ soundNumber table ⌝ }
+{
+    if table::is_sound(table) {
+        return 0;
+    }
+    1
+}
+
+// One request on a table by value: its reply's number, and the table after it. The bytes are the code and then document 01's
+// fields; any others get 2. A refusal gives back the very table.
+#[no_mangle]
+pub extern "C" fn captable_stepped(table: Table, request: &[u8]) -> Outcome
+    ensures { λ r. ⌜ r ≡ stepped (stepOf table (askFrom (now (request .entry)))) ⌝ }
+{
+    let asked = wire::request_in(request);
+    let what = asked.request;
+    let list = asked.list;
+    let done = requests::step(table, what, list);
+    let reply = done.reply;
+    let next = done.table;
+    let number = reply_number(reply);
+    Outcome {
+        number: number,
+        table: next,
+    }
+}
+
+// The same on a table that is lent: a refusal leaves it as it was.
+#[no_mangle]
+pub extern "C" fn captable_step(table: &mut Table, request: &[u8]) -> u8
+    ensures { λ r. ⌜ (r ≡ replyNumber (stepOf (now (table .entry)) (askFrom (now (request .entry))) .reply)) × (now (table .exit) ≡ stepOf (now (table .entry)) (askFrom (now (request .entry))) .table) ⌝ }
+{
+    let before = *table;
+    let a = captable_stepped(before, request);
+    let after = a.table;
+    *table = after;
+    a.number
+}
+
+// Potential access, answered whole; for a table that is not sound the number 1 and no rights.
+#[no_mangle]
+pub extern "C" fn captable_access(table: Table) -> Relation
+    ensures { λ r. ⌜ r ≡ related (accessOf table) ⌝ }
+{
+    let a = access::potential_access(table);
+    let reply = a.reply;
+    let rows = a.rows;
+    let number = access_number(reply);
+    Relation {
+        number: number,
+        rows: rows,
+    }
+}
+
+// A list that is too long.
+fn nine_entries() -> EntryList
+    ensures { λ r. ⌜ r .count ≡ 9 ⌝ }
+{
+    let nothing = Capability {
+        target: 0,
+        rights: 0,
+    };
+    EntryList {
+        count: 9,
+        entries: [nothing; 8],
+    }
+}
+
+// The list of bytes, of which eight entries are held; one that is too long, or no list, is held by its count alone.
+fn list_of(bytes: &[u8]) -> EntryList
+    ensures long { λ r. ⌜ (8 < r .count → 8 < length (listIn (now (bytes .entry)))) ⌝ }
+    ensures entries { λ r. ⌜ (r .count ≤ 8 → entriesOf r ≡ listIn (now (bytes .entry))) ⌝ }
+{
+    let n = bytes.len() / 2;
+    if bytes.len() % 2 != 0 {
+        return nine_entries();
+    }
+    if 8 < n {
+        return nine_entries();
+    }
+    let entries = report::entries_in(bytes, n);
+    EntryList {
+        count: n as u8,
+        entries: entries,
+    }
+}
+
+// The confinement test of a set of members and a list, two bytes for each entry: target, rights.
+#[no_mangle]
+pub extern "C" fn captable_test(table: Table, members: u64, list: &[u8]) -> Finding
+    ensures { λ r. ⌜ r ≡ found (testOf table members (listIn (now (list .entry)))) ⌝ }
+{
+    let entries = list_of(list);
+    let tested = confinement::test(table, members, entries);
+    let verdict = tested.verdict;
+    let number = report::verdict_number(verdict);
+    Finding {
+        number: number,
+        bound: tested.bound,
+    }
+}
+
+// Reads an image; on every refusal with the wholly unborn table.
+#[no_mangle]
+pub extern "C" fn captable_read(image: &[u8]) -> Outcome
+    ensures { λ r. ⌜ r ≡ loaded (readOf (now (image .entry))) ⌝ }
+{
+    let l = image::read(image);
+    let reply = l.reply;
+    let table = l.table;
+    let number = report::read_number(reply);
+    Outcome {
+        number: number,
+        table: table,
+    }
+}
+
+// Writes a table's image into the first 1,923 bytes of a buffer; a refusal leaves every byte.
+#[no_mangle]
+pub extern "C" fn captable_write(table: Table, buffer: &mut [u8]) -> u8
+    ensures number { λ r. ⌜ r ≡ writeNumber (writeRefusal table (now (buffer .entry))) ⌝ }
+    ensures left { λ _. ⌜ now (buffer .exit) ≡ writtenOf table (now (buffer .entry)) ⌝ }
+{
+    let reply = image::write(table, buffer);
+    write_number(reply)
+}
