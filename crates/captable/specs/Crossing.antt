@@ -26,16 +26,16 @@ abbrev pub soundNumber : Table → ℕ
 soundNumber t = cond (sound t) 0 1
 
 abbrev pub stepped : Stepped → Outcome
-stepped s = record { number = number (s .reply); table = s .table }
+stepped s = record { table = s .table; number = number (s .reply) }
 
 abbrev pub related : Access → Relation
-related a = record { number = accessNumber (a .reply); rows = a .rows }
+related a = record { rows = a .rows; number = accessNumber (a .reply) }
 
 abbrev pub found : Tested → Finding
-found r = record { number = verdictNumber (r .verdict); bound = r .bound }
+found r = record { bound = r .bound; number = verdictNumber (r .verdict) }
 
 abbrev pub loaded : Loaded → Outcome
-loaded l = record { number = readNumber (l .reply); table = l .table }
+loaded l = record { table = l .table; number = readNumber (l .reply) }
 
 -- the list that bytes are: target and rights of each entry in turn. Where a byte is left over they are no list, and count as one that
 -- is too long

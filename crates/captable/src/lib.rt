@@ -19,26 +19,26 @@ ghost use Rattle.image.specs.Images.{writeNumber, readOf, writeRefusal, written
 ghost use Rattle.wire.specs.Wires.{askFrom};
 ghost use Rattle.captable.specs.Crossing.{soundNumber, stepped, related, found, loaded, listIn};
 
-// A number and a table: the table that a step or a reading of an image gives.
+// A table that a step or a reading of an image gives, and its number. The table stands first, so that no copy of it has to be moved.
 #[repr(C)]
 pub struct Outcome {
-    pub number: u8,
     pub table: Table,
+    pub number: u8,
 }
 
 // Potential access: the row at 64 * right + holder has the numbers over which the holder has the right, rights in the order rd, wr,
 // wk, tx.
 #[repr(C)]
 pub struct Relation {
-    pub number: u8,
     pub rows: [u64; 256],
+    pub number: u8,
 }
 
 // What the test found: the bound is empty on every refusal.
 #[repr(C)]
 pub struct Finding {
-    pub number: u8,
     pub bound: u64,
+    pub number: u8,
 }
 
 // A reply by its number.
@@ -105,8 +105,8 @@ pub extern "C" fn captable_stepped(table: Table, request: &[u8]) -> Outcome
     let next = done.table;
     let number = reply_number(reply);
     Outcome {
-        number: number,
         table: next,
+        number: number,
     }
 }
 
@@ -132,8 +132,8 @@ pub extern "C" fn captable_access(table: Table) -> Relation
     let rows = a.rows;
     let number = access_number(reply);
     Relation {
-        number: number,
         rows: rows,
+        number: number,
     }
 }
 
@@ -180,8 +180,8 @@ pub extern "C" fn captable_test(table: Table, members: u64, list: &[u8]) -> Find
     let verdict = tested.verdict;
     let number = report::verdict_number(verdict);
     Finding {
-        number: number,
         bound: tested.bound,
+        number: number,
     }
 }
 
@@ -195,8 +195,8 @@ pub extern "C" fn captable_read(image: &[u8]) -> Outcome
     let table = l.table;
     let number = report::read_number(reply);
     Outcome {
-        number: number,
         table: table,
+        number: number,
     }
 }
 

@@ -74,10 +74,10 @@ a-val d = LL.val S.the-type S′.the-laws d
 
 -- what whoever holds an `Outcome` knows of its two fields
 table-is : (r : Outcome) (v : Val) → Is S.the-row r (v ∷ []) → Is T.the-row (r .table) (t-val (r .table) ∷ [])
-table-is r v is = LL.owed S.the-type S′.the-laws r (v ∷ []) is .1 .0
+table-is r v is = LL.owed S.the-type S′.the-laws r (v ∷ []) is .0
 
 number-fits : (r : Outcome) (v : Val) → Is S.the-row r (v ∷ []) → r .number < 2 ^ 8
-number-fits r v is = LL.owed S.the-type S′.the-laws r (v ∷ []) is .0 .1
+number-fits r v is = LL.owed S.the-type S′.the-laws r (v ∷ []) is .1 .0 .1
 
 spelled : (r : Outcome) (v : Val) → Is S.the-row r (v ∷ []) → v ≡ a-val r
 spelled r v is = ap only (LL.tells S.the-type S′.the-laws r (v ∷ []) is)
@@ -156,9 +156,9 @@ module _ {M : Type 1} (𝓤 : URA M) (H : Heap 𝓤) (A : Atoms 𝓤) (W : Given
         -- [what the result owns; the bytes' token; the table's cell; what it owns; the open borrow; obs; auth; room for _5; …; room for _4; …; _3; …; _2; …; _1; …; room for _0; …; what the bytes own; true]
         land ! (from ! (stop !)) (init ! 9 refl (LL.lawful S.the-type S′.the-laws 𝓤 H A W .typed r _ is .0)) $
         rewrite ! 9 (λ (u : Val). ‵ (fat fullShare S′.mir l₄ 0 u)) (spelled r v is) refl $
-        assigns ! (of-opd ! (load ! (from ! (fld ! refl (stop !))) (look-in ! 9 (sub ! 1 refl (whole !))))) (from ! (stop !)) (init ! 7 refl (LL.lawful T.the-type T′.the-laws 𝓤 H A W .typed (r .table) _ (table-is r v is) .0)) $
+        assigns ! (of-opd ! (load ! (from ! (fld ! refl (stop !))) (look-in ! 9 (sub ! 0 refl (whole !))))) (from ! (stop !)) (init ! 7 refl (LL.lawful T.the-type T′.the-laws 𝓤 H A W .typed (r .table) _ (table-is r v is) .0)) $
         assigns ! (of-opd ! (held ! refl)) (from ! (hop ! (look ! 15 refl) (stop !))) (store-raw ! 2 refl (LL.lawful T.the-type T′.the-laws 𝓤 H A W .typed (r .table) _ (table-is r v is) .0)) $
-        assigns ! (of-opd ! (load ! (from ! (fld ! refl (stop !))) (look-in ! 9 (sub ! 0 refl (whole !))))) (from ! (stop !)) (init ! 17 refl (tt, record { fits = number-fits r v is })) $
+        assigns ! (of-opd ! (load ! (from ! (fld ! refl (stop !))) (look-in ! 9 (sub ! 1 refl (whole !))))) (from ! (stop !)) (init ! 17 refl (tt, record { fits = number-fits r v is })) $
         drop ! $ move ! (2 ∷ []) $ drop ! $ move ! (1 ∷ []) $ owned ! T.the-row (Is T.the-row) (LL.makes T.the-type T′.the-plain 𝓤 H A) (r .table) (t-val (r .table) ∷ []) (table-is r v is) $ move ! (1 ∷ 0 ∷ 3 ∷ 4 ∷ 5 ∷ []) $
         closes ! tt T.the-row (r .table) (t-val (r .table) ∷ []) b o $
         -- [obs; the borrow; the token; the bytes' token; _5; …; _4; …; _3; …; _2; …; _1; …; _0; …; what the bytes own; true]
