@@ -8,14 +8,16 @@ use requests::Reply;
 use table::Capability;
 use table::Table;
 ghost use mathlib.Core.Path.{_≡_};
+ghost use mathlib.Core.List.{_++_};
 ghost use Prim.Native.Nat.{_≤_, _<_};
-ghost use lib.ListN.{length};
+ghost use lib.ListN.{length, drop};
 ghost use Rattle.requests.specs.Replies.{number as replyNumber};
 ghost use Rattle.requests.specs.Steps.{stepOf};
 ghost use Rattle.access.specs.Answers.{accessNumber, accessOf};
 ghost use Rattle.confinement.specs.StandIn.{entriesOf};
 ghost use Rattle.confinement.specs.Tests.{testOf};
 ghost use Rattle.image.specs.Images.{writeNumber, readOf, writeRefusal, writtenOf};
+ghost use Rattle.report.specs.Printed.{printedOf};
 ghost use Rattle.wire.specs.Wires.{askFrom};
 ghost use Rattle.captable.specs.Crossing.{soundNumber, stepped, related, found, loaded, listIn};
 
@@ -208,4 +210,14 @@ pub extern "C" fn captable_write(table: Table, buffer: &mut [u8]) -> u8
 {
     let reply = image::write(table, buffer);
     write_number(reply)
+}
+
+// Puts what the program `confine` prints for the input at the buffer's start, and says how many bytes that is: at most 191. The
+// bytes after them are left as they were.
+#[no_mangle]
+pub extern "C" fn captable_confine(input: &[u8], out: &mut [u8; 256]) -> usize
+    ensures count { λ r. ⌜ r ≡ length (printedOf (now (input .entry))) ⌝ }
+    ensures printed { λ _. ⌜ now (out .exit) ≡ printedOf (now (input .entry)) ++ drop (length (printedOf (now (input .entry)))) (now (out .entry)) ⌝ }
+{
+    report::confine(input, out)
 }

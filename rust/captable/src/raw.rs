@@ -1,0 +1,108 @@
+//! The archive's calls and structs as they cross, field for field those of `include/captable.h`.
+//!
+//! The safe calls are methods of [`Table`](crate::Table). These are here for whoever needs the exact
+//! boundary: a slice goes as its pointer and then its length, and every answer is document 01's number,
+//! 0 for done.
+
+/// What a slot holds: a target, and rights over it (1 rd, 2 wr, 4 wk, 8 tx). All zero is an empty slot.
+#[repr(C)]
+#[derive(Clone, Copy, Debug, Default, PartialEq, Eq)]
+pub struct Capability {
+    /// The number of the object that the capability is over.
+    pub target: u8,
+    /// The rights, added up.
+    pub rights: u8,
+}
+
+/// An object's record.
+#[repr(C)]
+#[derive(Clone, Copy, Debug, Default, PartialEq, Eq)]
+pub struct Record {
+    /// 0 unborn, 1 alive, 2 dead.
+    pub status: u8,
+    /// 0 passive, 1 active.
+    pub kind: u8,
+    /// The object's word.
+    pub word: u32,
+    /// The unborn numbers that the object may make objects of, bit n for number n.
+    pub stock: u64,
+}
+
+/// The table: 64 records, and slot j of object n at n * 8 + j.
+#[repr(C)]
+#[derive(Clone, Copy, Debug, PartialEq, Eq)]
+pub struct Table {
+    /// The records, in number order.
+    pub records: [Record; 64],
+    /// The slots, eight for each record.
+    pub slots: [Capability; 512],
+}
+
+/// A table and a number.
+#[repr(C)]
+#[derive(Clone, Copy, Debug, PartialEq, Eq)]
+pub struct Outcome {
+    /// The table after the call.
+    pub table: Table,
+    /// 0, or why the call was refused.
+    pub number: u8,
+}
+
+/// Potential access: the row at 64 * right + holder has the numbers over which the holder has the
+/// right, rights in the order rd, wr, wk, tx.
+#[repr(C)]
+#[derive(Clone, Copy, Debug, PartialEq, Eq)]
+pub struct Relation {
+    /// The rows.
+    pub rows: [u64; 256],
+    /// 0, or 1 for a table that is not sound.
+    pub number: u8,
+}
+
+/// What the confinement test found.
+#[repr(C)]
+#[derive(Clone, Copy, Debug, PartialEq, Eq)]
+pub struct Finding {
+    /// The non-members that the members can ever influence, bit n for number n; empty on a refusal.
+    pub bound: u64,
+    /// 0 for accepted, or why the test was refused.
+    pub number: u8,
+}
+
+extern "C" {
+    /// 0 for a sound table, 1 for any other.
+    pub fn captable_sound(table: Table) -> u8;
+    /// One request on the lent table. A refusal leaves the table as it was.
+    ///
+    /// # Safety
+    /// `table` points to a table that nothing else uses during the call, `request` to `length` bytes.
+    pub fn captable_step(table: *mut Table, request: *const u8, length: usize) -> u8;
+    /// One request on a table by value: the reply's number, and the table after it.
+    ///
+    /// # Safety
+    /// `request` points to `length` bytes.
+    pub fn captable_stepped(table: Table, request: *const u8, length: usize) -> Outcome;
+    /// Potential access of a table.
+    pub fn captable_access(table: Table) -> Relation;
+    /// The confinement test of a set of members and a list, two bytes for each entry.
+    ///
+    /// # Safety
+    /// `list` points to `length` bytes.
+    pub fn captable_test(table: Table, members: u64, list: *const u8, length: usize) -> Finding;
+    /// Reads an image; on every refusal with the wholly unborn table.
+    ///
+    /// # Safety
+    /// `image` points to `length` bytes.
+    pub fn captable_read(image: *const u8, length: usize) -> Outcome;
+    /// Writes a table's image into the first 1,923 bytes of a buffer. A refusal leaves every byte.
+    ///
+    /// # Safety
+    /// `buffer` points to `length` bytes that nothing else uses during the call.
+    pub fn captable_write(table: Table, buffer: *mut u8, length: usize) -> u8;
+    /// Puts what the program `confine` prints for the input at the start of a buffer of 256 bytes, leaves
+    /// the rest of it, and says how many bytes that is.
+    ///
+    /// # Safety
+    /// `input` points to `length` bytes, `out` to 256 bytes that nothing else uses during the call.
+    pub fn captable_confine(input: *const u8, length: usize, out: *mut [u8; 256]) -> usize;
+}

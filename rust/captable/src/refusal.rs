@@ -1,0 +1,112 @@
+//! Why a call was turned down. Each cause has document 01's number.
+
+use core::error::Error;
+use core::fmt;
+
+macro_rules! refusals {
+    ($(#[$about:meta])* $name:ident { $($(#[$doc:meta])* $cause:ident = $number:literal, $text:literal;)* }) => {
+        $(#[$about])*
+        #[derive(Clone, Copy, Debug, PartialEq, Eq)]
+        #[repr(u8)]
+        pub enum $name {
+            $($(#[$doc])* $cause = $number,)*
+        }
+
+        impl $name {
+            /// Document 01's number of the cause.
+            pub fn number(self) -> u8 {
+                self as u8
+            }
+
+            /// The answer of a call by its number: 0 is success.
+            pub(crate) fn check(number: u8) -> Result<(), $name> {
+                match number {
+                    0 => Ok(()),
+                    $($number => Err($name::$cause),)*
+                    other => unreachable!("no answer of this call has the number {other}"),
+                }
+            }
+        }
+
+        impl fmt::Display for $name {
+            fn fmt(&self, out: &mut fmt::Formatter<'_>) -> fmt::Result {
+                let text = match self {
+                    $($name::$cause => $text,)*
+                };
+                write!(out, "refused {}: {text}", self.number())
+            }
+        }
+
+        impl Error for $name {}
+    };
+}
+
+refusals! {
+    /// Why a request was refused. The table is as it was.
+    StepRefusal {
+        /// The table is not sound.
+        TableUnsound = 1, "the table is not sound";
+        /// A field is out of range, a list is too long, or the bytes are no request.
+        FieldInvalid = 2, "a field is out of range";
+        /// The actor is not an alive active object.
+        ActorUnfit = 3, "the actor is not alive and active";
+        /// The slot that is used is empty.
+        SlotEmpty = 4, "the slot is empty";
+        /// The target is dead.
+        TargetDead = 5, "the target is dead";
+        /// The slot lacks the right that the request needs.
+        RightAbsent = 6, "the right is absent";
+        /// A send's target is passive.
+        TargetPassive = 7, "the target is passive";
+        /// A destroy's target is the actor.
+        ActorItself = 8, "the target is the actor itself";
+        /// An allocate's number or part is outside the actor's stock.
+        NotInStock = 9, "the number or the part is outside the stock";
+    }
+}
+
+refusals! {
+    /// Why potential access was not answered.
+    AccessRefusal {
+        /// The table is not sound.
+        TableUnsound = 1, "the table is not sound";
+    }
+}
+
+refusals! {
+    /// Why the confinement test was refused.
+    TestRefusal {
+        /// The table is not sound.
+        TableUnsound = 1, "the table is not sound";
+        /// There is no member, or one that is not alive.
+        MembersInvalid = 10, "there is no member, or one is not alive";
+        /// The list has more than eight entries, or an entry is no right over a born non-member.
+        ListInvalid = 11, "the list is too long, or an entry is invalid";
+        /// A member holds a right over a non-member that the list does not have.
+        RightUnlisted = 12, "a member holds a right that is not listed";
+        /// A non-member holds a capability that names a member.
+        MemberHeld = 13, "a non-member holds a capability naming a member";
+    }
+}
+
+refusals! {
+    /// Why an image was not read.
+    ReadRefusal {
+        /// The image's table is not sound.
+        TableUnsound = 1, "the image's table is not sound";
+        /// The image has not 1,923 bytes, or its length field says otherwise.
+        LengthWrong = 14, "the image has a wrong length";
+        /// The version byte is not 1.
+        VersionWrong = 15, "the image has a wrong version";
+    }
+}
+
+refusals! {
+    /// Why an image was not written. The buffer is as it was.
+    WriteRefusal {
+        /// The table is not sound.
+        TableUnsound = 1, "the table is not sound";
+        /// The buffer has fewer than 1,923 bytes.
+        BufferShort = 16, "the buffer is too short";
+    }
+}
