@@ -1,0 +1,33 @@
+//! Table K of document 01.
+
+use captable::{Capability, Set, Table, ACTIVE, ALIVE, RD, WK, WR};
+
+/// The set of some numbers.
+pub fn set(numbers: &[u8]) -> Set {
+    numbers.iter().fold(0, |set, n| set | 1 << n)
+}
+
+/// An entry or a slot's content.
+pub fn cap(target: u8, rights: u8) -> Capability {
+    Capability { target, rights }
+}
+
+/// "K: alive 0 to 6; active 0, 2, 4, 5. Slot 0 of 0 is (1, rd), of 2 (1, wk), of 4 (3, wr), of 5 (1, wr);
+/// slot 1 of 2 is (6, wk). Stocks: 5 has {10, 11}, 4 has {12}."
+pub fn k() -> Table {
+    let mut table = Table::unborn();
+    for n in 0..=6 {
+        table.record_mut(n).status = ALIVE;
+    }
+    for n in [0, 2, 4, 5] {
+        table.record_mut(n).kind = ACTIVE;
+    }
+    *table.slot_mut(0, 0) = cap(1, RD);
+    *table.slot_mut(2, 0) = cap(1, WK);
+    *table.slot_mut(4, 0) = cap(3, WR);
+    *table.slot_mut(5, 0) = cap(1, WR);
+    *table.slot_mut(2, 1) = cap(6, WK);
+    table.record_mut(5).stock = set(&[10, 11]);
+    table.record_mut(4).stock = set(&[12]);
+    table
+}

@@ -1,0 +1,67 @@
+//! The structs are laid out as `include/captable.h` asserts on the C side: sizes and offsets are written
+//! here a second time, and the header's assertions are read and compared.
+
+use captable::raw::{Capability, Finding, Outcome, Record, Relation, Table};
+use std::mem::{align_of, offset_of, size_of};
+
+#[test]
+fn sizes_and_offsets() {
+    assert_eq!(size_of::<Capability>(), 2);
+    assert_eq!(offset_of!(Capability, target), 0);
+    assert_eq!(offset_of!(Capability, rights), 1);
+    assert_eq!(size_of::<Record>(), 16);
+    assert_eq!(offset_of!(Record, status), 0);
+    assert_eq!(offset_of!(Record, kind), 1);
+    assert_eq!(offset_of!(Record, word), 4);
+    assert_eq!(offset_of!(Record, stock), 8);
+    assert_eq!(size_of::<Table>(), 2048);
+    assert_eq!(align_of::<Table>(), 8);
+    assert_eq!(offset_of!(Table, records), 0);
+    assert_eq!(offset_of!(Table, slots), 1024);
+    assert_eq!(size_of::<Outcome>(), 2056);
+    assert_eq!(offset_of!(Outcome, table), 0);
+    assert_eq!(offset_of!(Outcome, number), 2048);
+    assert_eq!(size_of::<Relation>(), 2056);
+    assert_eq!(offset_of!(Relation, rows), 0);
+    assert_eq!(offset_of!(Relation, number), 2048);
+    assert_eq!(size_of::<Finding>(), 16);
+    assert_eq!(offset_of!(Finding, bound), 0);
+    assert_eq!(offset_of!(Finding, number), 8);
+}
+
+/// The number that the header's assertion of this name states.
+fn asserted(header: &str, name: &str) -> usize {
+    let start = format!("CAPTABLE_ASSERT({name},");
+    let line = header
+        .lines()
+        .find(|line| line.starts_with(&start))
+        .unwrap_or_else(|| panic!("the header asserts nothing of {name}"));
+    let number = line.rsplit("== ").next().expect("a line has a last part");
+    number
+        .trim_end_matches(");")
+        .parse()
+        .expect("an assertion ends in a number")
+}
+
+#[test]
+fn the_header_asserts_the_same() {
+    let header = include_str!("../../../include/captable.h");
+    for (name, here) in [
+        ("capability", size_of::<Capability>()),
+        ("rights", offset_of!(Capability, rights)),
+        ("record", size_of::<Record>()),
+        ("kind", offset_of!(Record, kind)),
+        ("word", offset_of!(Record, word)),
+        ("stock", offset_of!(Record, stock)),
+        ("table", size_of::<Table>()),
+        ("slots", offset_of!(Table, slots)),
+        ("outcome", size_of::<Outcome>()),
+        ("outcome_number", offset_of!(Outcome, number)),
+        ("relation", size_of::<Relation>()),
+        ("relation_number", offset_of!(Relation, number)),
+        ("finding", size_of::<Finding>()),
+        ("finding_number", offset_of!(Finding, number)),
+    ] {
+        assert_eq!(asserted(header, name), here, "{name}");
+    }
+}
