@@ -18,3 +18,4 @@ pub mod step;
 pub mod table;
 pub mod two_runs;
 pub mod vectors;
+pub mod wire;

@@ -284,7 +284,7 @@ fn the_default_run_asks_everything() {
         .iter()
         .map(|case| (case.question.subject(), case.answer.number()))
         .collect();
-    let expected: [(&str, &[u8]); 14] = [
+    let expected: [(&str, &[u8]); 16] = [
         ("1 read", &[0, 1, 2, 3, 4, 5, 6]),
         ("2 write", &[0, 1, 2, 3, 4, 5, 6]),
         ("3 fetch", &[0, 1, 2, 3, 4, 5, 6]),
@@ -299,6 +299,8 @@ fn the_default_run_asks_everything() {
         ("image read", &[0, 1, 14, 15]),
         ("image written", &[0, 1, 16]),
         ("confine prints", &[0, 1, 10, 11, 12, 13, 14, 15, 17]),
+        ("request as bytes", &[0, 2]),
+        ("list as bytes", &[0, 11]),
     ];
     for (subject, numbers) in expected {
         for &number in numbers {

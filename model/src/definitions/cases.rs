@@ -8,9 +8,10 @@ use crate::generate::{ConfinementCase, StepCase};
 use crate::image::{read, write};
 use crate::step::{run, step, Pair, Request, MAX_PAIRS};
 use crate::table::{Table, OBJECTS};
+use crate::wire;
 
 /// Everything that can be asked, in the order of the summary.
-pub const SUBJECTS: [&str; 17] = [
+pub const SUBJECTS: [&str; 19] = [
     "1 read",
     "2 write",
     "3 fetch",
@@ -28,6 +29,8 @@ pub const SUBJECTS: [&str; 17] = [
     "image read",
     "image written",
     "confine prints",
+    "request as bytes",
+    "list as bytes",
 ];
 
 /// What is asked.
@@ -75,6 +78,14 @@ pub enum Question {
     Printed {
         input: Vec<u8>,
     },
+    /// Which request bytes are.
+    RequestBytes {
+        bytes: Vec<u8>,
+    },
+    /// Which list of a test bytes are.
+    ListBytes {
+        bytes: Vec<u8>,
+    },
 }
 
 /// What is answered: a number, 0 for done, and what comes with it.
@@ -89,6 +100,10 @@ pub enum Answer {
     /// The replies of a run and its last table.
     Run(Vec<u8>, Table),
     Text(String),
+    /// A request; one without fields counts as refused by 2.
+    Ask(Request),
+    /// A list; one that is too long counts as refused by 11.
+    Entries(Vec<Entry>),
 }
 
 /// A question with the answer that the definitions have to give.
@@ -165,6 +180,8 @@ impl Question {
                 Answer::Buffer(number, written)
             }
             Question::Printed { input } => Answer::Text(confine(input)),
+            Question::RequestBytes { bytes } => Answer::Ask(wire::decode(bytes)),
+            Question::ListBytes { bytes } => Answer::Entries(wire::decode_list(bytes)),
         }
     }
 
@@ -183,6 +200,8 @@ impl Question {
             Question::Read { .. } => 14,
             Question::Write { .. } => 15,
             Question::Printed { .. } => 16,
+            Question::RequestBytes { .. } => 17,
+            Question::ListBytes { .. } => 18,
         }]
     }
 }
@@ -197,6 +216,10 @@ impl Answer {
             | Answer::Buffer(number, _) => *number,
             Answer::Run(replies, _) => replies.last().copied().unwrap_or(0),
             Answer::Text(text) => printed_number(text),
+            Answer::Ask(Request::Unknown { .. }) => 2,
+            Answer::Ask(_) => 0,
+            Answer::Entries(list) if list.len() > MAX_ENTRIES => 11,
+            Answer::Entries(_) => 0,
         }
     }
 }

@@ -8,15 +8,17 @@ use super::renumber::test_at_the_end;
 use super::steps::{held_step, run, step};
 use crate::confinement::{Entry, MAX_ENTRIES};
 use crate::generate::{
-    any_damage, any_sound_table, confine_input, confinement_case, image_case, CONFINE_NUMBERS,
-    IMAGE_NUMBERS,
+    any_damage, any_sound_table, confine_input, confinement_case, image_case, step_case,
+    CONFINE_NUMBERS, IMAGE_NUMBERS,
 };
 use crate::image::IMAGE_LENGTH;
 use crate::rng::Rng;
+use crate::wire::encode;
 
 /// How many questions of each kind are drawn. Beside the steps and the tests come some at the edges of
 /// their fields and some with lists as the code holds them, and runs. As many images are read as tables
-/// are written and inputs given to `confine`.
+/// are written and inputs given to `confine`, and to the reader of lists, and twice as many
+/// bytes to the reader of requests.
 #[derive(Clone, Copy, Debug, PartialEq, Eq)]
 pub struct Counts {
     pub steps: usize,
@@ -48,7 +50,7 @@ type Draw = fn(&mut Rng, usize) -> Question;
 /// All questions of a run. Each kind has a generator of its own, so that the number of one kind
 /// does not change the questions of another.
 pub fn questions(seed: u64, counts: &Counts) -> Vec<Question> {
-    let kinds: [(usize, Draw); 11] = [
+    let kinds: [(usize, Draw); 13] = [
         (counts.steps, step),
         (counts.steps / 4, edge_step),
         (counts.steps / 10, held_step),
@@ -60,6 +62,8 @@ pub fn questions(seed: u64, counts: &Counts) -> Vec<Question> {
         (counts.images, image),
         (counts.images, written),
         (counts.images, printed),
+        (2 * counts.images, request_bytes),
+        (counts.images, list_bytes),
     ];
     let mut seeds = Rng::new(seed);
     let mut questions = Vec::new();
@@ -131,4 +135,42 @@ fn printed(rng: &mut Rng, turn: usize) -> Question {
     Question::Printed {
         input: confine_input(rng, aim),
     }
+}
+
+/// The bytes of a request of each code in turn; then some with a byte less or more, a list too long, or
+/// any bytes at all.
+fn request_bytes(rng: &mut Rng, turn: usize) -> Question {
+    let (code, aim) = [
+        (1, 0),
+        (2, 0),
+        (3, 0),
+        (4, 0),
+        (5, 0),
+        (6, 0),
+        (7, 0),
+        (8, 0),
+        (9, 2),
+    ][turn % 9];
+    let mut bytes = encode(&step_case(rng, code, aim).request);
+    match turn / 9 % 4 {
+        0 | 1 => {}
+        2 if turn % 2 == 0 => bytes.push(rng.byte(0, 255)),
+        2 => {
+            bytes.pop();
+        }
+        _ => {
+            let length = rng.between(0, 24) as usize;
+            bytes.resize_with(length, || rng.byte(0, 255));
+            if let (Some(place), true) = (bytes.get_mut(7), rng.percent(50)) {
+                *place = rng.byte(4, 6); // near the longest list of a send
+            }
+        }
+    }
+    Question::RequestBytes { bytes }
+}
+
+/// Lists of up to nine entries, with and without a byte left over.
+fn list_bytes(rng: &mut Rng, turn: usize) -> Question {
+    let bytes = (0..turn % 20).map(|_| rng.byte(0, 255)).collect();
+    Question::ListBytes { bytes }
 }

@@ -10,6 +10,7 @@ pub fn head(topic: Topic) -> String {
         Topic::Access => (ACCESS_USES, ACCESS_WORDS),
         Topic::Images => (IMAGES_USES, IMAGES_WORDS),
         Topic::Printed => (PRINTED_USES, ""),
+        Topic::Bytes => (BYTES_USES, BYTES_WORDS),
     };
     format!("{USES}{uses}{WORDS}{words}")
 }
@@ -94,4 +95,16 @@ answered l = (readNumber (l .reply), l .table)
 
 const PRINTED_USES: &str = "\
 use Rattle.report.specs.Printed.{printedOf}
+";
+
+const BYTES_USES: &str = "\
+use Rattle.requests.specs.declared.Pair.{Pair}
+use Rattle.requests.specs.Asks.{Ask, read, write, fetch, store, revoke, send, allocate, destroy, unknown}
+use Rattle.wire.specs.Wires.{askFrom}
+use Rattle.captable.specs.Crossing.{listIn}
+";
+
+const BYTES_WORDS: &str = "
+abbrev pair : ℕ → ℕ → Pair
+pair from to = record { from = from; to = to }
 ";

@@ -17,15 +17,17 @@ pub enum Topic {
     Access,
     Images,
     Printed,
+    Bytes,
 }
 
 impl Topic {
-    pub const ALL: [Topic; 5] = [
+    pub const ALL: [Topic; 6] = [
         Topic::Steps,
         Topic::Tests,
         Topic::Access,
         Topic::Images,
         Topic::Printed,
+        Topic::Bytes,
     ];
 
     pub fn of(question: &Question) -> Topic {
@@ -37,6 +39,7 @@ impl Topic {
             Question::Access { .. } => Topic::Access,
             Question::Read { .. } | Question::Write { .. } => Topic::Images,
             Question::Printed { .. } => Topic::Printed,
+            Question::RequestBytes { .. } | Question::ListBytes { .. } => Topic::Bytes,
         }
     }
 
@@ -48,6 +51,7 @@ impl Topic {
             Topic::Access => "access",
             Topic::Images => "image",
             Topic::Printed => "report",
+            Topic::Bytes => "captable",
         }
     }
 
@@ -66,13 +70,14 @@ impl Topic {
             Topic::Access => "Access",
             Topic::Images => "Images",
             Topic::Printed => "Printed",
+            Topic::Bytes => "Bytes",
         }
     }
 
     /// How many cases stand in a module.
     fn at_once(self) -> usize {
         match self {
-            Topic::Steps => 20,
+            Topic::Steps | Topic::Bytes => 20,
             Topic::Tests => 10,
             Topic::Access => 1,
             Topic::Images | Topic::Printed => 5,

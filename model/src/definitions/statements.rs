@@ -97,6 +97,14 @@ impl Writer<'_> {
                 let input = self.value("input", "List ℕ", &terms::bytes(input));
                 format!("printedOf {input}")
             }
+            Question::RequestBytes { bytes } => {
+                let bytes = self.value("bytes", "List ℕ", &terms::bytes(bytes));
+                format!("askFrom {bytes}")
+            }
+            Question::ListBytes { bytes } => {
+                let bytes = self.value("bytes", "List ℕ", &terms::bytes(bytes));
+                format!("listIn {bytes}")
+            }
         }
     }
 
@@ -126,6 +134,8 @@ impl Writer<'_> {
                 let text = terms::bytes(text.as_bytes());
                 ("List ℕ", self.value("text", "List ℕ", &text))
             }
+            Answer::Ask(request) => ("Ask", format!("({})", terms::ask(request))),
+            Answer::Entries(list) => ("List Capability", format!("({})", terms::entries(list))),
         }
     }
 

@@ -4,6 +4,7 @@
 use super::cases::{Answer, Case, Question, SUBJECTS};
 use super::relations::ALL_ROWS;
 use crate::rng::Rng;
+use crate::step::Request;
 use crate::table::Table;
 
 /// For everything that is asked, a case with a wrong number and one with a right number and wrong
@@ -53,6 +54,8 @@ fn other_number(answer: &Answer) -> Answer {
             }
         }
         Answer::Text(text) => *text = format!("refused {other}\n"),
+        Answer::Ask(request) => *request = Request::Read { actor: 0, t: 0 },
+        Answer::Entries(list) => list.push((0, 0)),
     }
     answer
 }
@@ -71,6 +74,11 @@ fn other_content(rng: &mut Rng, answer: &Answer) -> Answer {
             bytes[place] ^= rng.byte(1, 255);
         }
         Answer::Text(text) => *text += "64\n",
+        Answer::Ask(request) => {
+            let actor = request.actor();
+            *request = Request::Unknown { code: 0, actor };
+        }
+        Answer::Entries(list) => list.push((0, 0)),
     }
     answer
 }
