@@ -154,7 +154,7 @@ fn request_bytes(rng: &mut Rng, turn: usize) -> Question {
     let mut bytes = encode(&step_case(rng, code, aim).request);
     match turn / 9 % 4 {
         0 | 1 => {}
-        2 if turn % 2 == 0 => bytes.push(rng.byte(0, 255)),
+        2 if turn.is_multiple_of(2) => bytes.push(rng.byte(0, 255)),
         2 => {
             bytes.pop();
         }
