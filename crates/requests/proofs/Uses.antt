@@ -12,19 +12,26 @@ use Rattle.mask.proofs.Tests.{or-none, or-false, or-assoc}
 use Rattle.table.specs.declared.Table.{Table}
 use Rattle.table.specs.Cells.{recordAt, stockAt, isActive}
 use Rattle.requests.specs.declared.Pair.{Pair}
+use Rattle.requests.specs.declared.Need.{Need}
 use Rattle.requests.specs.declared.Need.the-variants.{ReadOrWeak, Write, Send}
 use Rattle.requests.specs.declared.PairList.{PairList}
 use Rattle.requests.specs.declared.Reply.{Reply}
 use Rattle.requests.specs.declared.Reply.the-variants.{Done, TargetPassive, ActorItself, NotInStock}
+use Rattle.requests.specs.declared.Seen.{Seen}
 use Rattle.requests.specs.Asks.{read, write, fetch, store, revoke, send, allocate, destroy, unknown, pairsOf}
 use Rattle.requests.specs.Refusals.{refuse, noObject, noSlot, badList, badField, notInStock, targetOf, laterRows}
-use Rattle.requests.specs.Parts.{PairsFit}
+use Rattle.requests.specs.Parts.{Looked, PairsFit}
 use Rattle.requests.proofs.Pairs.{pairs-fit}
 use Rattle.requests.proofs.Ways.{Uses, Fields, Later}
 
 -- the last checks, of the target: row 7 of a send, row 8 of a destroy
 abbrev pub passiveRow : Table → ℕ → Reply
 passiveRow t g = refuse (not (isActive (recordAt t g))) TargetPassive Done
+
+-- row 7 by the kind that looking saw
+pub passive-seen : {t : Table} {a s : ℕ} {bad : Bool} {need : Need} {seen : Seen} → Looked t a s bad need seen → seen .done ≡ true
+    → passiveRow t (seen .target) ≡ refuse (not (eqb (seen .kind) 1)) TargetPassive Done
+passive-seen looked d = rw (looked .target d, looked .kind d) refl
 
 abbrev pub itselfRow : ℕ → ℕ → Reply
 itselfRow a g = refuse (eqb g a) ActorItself Done

@@ -175,9 +175,7 @@ pub fn send(t: Table, actor: u8, s: u8, word: u32, l: PairList, reply: u8) -> St
         };
     }
     let g = v.target;
-    let m = g as usize;
-    let b = t.records[m];
-    if !(b.kind == 1) {
+    if !(v.kind == 1) {
         return Stepped {
             reply: Reply::TargetPassive,
             table: t,
