@@ -76,13 +76,14 @@ pub slots-placed : (i j : ℕ) → (noSlot i || noSlot j) ≡ false → (i < 8) 
 slots-placed i j e = let p = or-none (noSlot i) (noSlot j) e in (slot-placed i (p .0), slot-placed j (p .1))
 
 pub look-invalid : (t : Table) (a s : ℕ) (bad : Bool) (need : Need) → (noObject a || noSlot s || bad) ≡ true
-    → Looked t a s bad need (record { reply = FieldInvalid; done = false; target = 0; rights = 0 })
+    → Looked t a s bad need (record { reply = FieldInvalid; done = false; target = 0; rights = 0; kind = 0 })
 unfolding slotRows
 look-invalid t a s bad need e = record {
   reply = rw e refl;
   done = rw e refl;
   target = λ h. absurd (false≢true h);
   rights = λ h. absurd (false≢true h);
+  kind = λ h. absurd (false≢true h);
   actor = λ h. absurd (false≢true h);
   slot = λ h. absurd (false≢true h);
   fields = λ h. absurd (false≢true h);
@@ -96,6 +97,7 @@ module _ (t : Table) (a s : ℕ) (bad : Bool) (need : Need) (met : Bool) (reply 
     done = not (unfit (recordAt t a) || isEmpty (slotAt t a s) || isDead (targetRecord t a s) || not met);
     target = targetOf t a s;
     rights = rightsOf t a s;
+    kind = targetRecord t a s .kind;
   }
 
   pub look-seen : Sized t → sound t ≡ true → (noObject a || noSlot s || bad) ≡ false → met ≡ needMet need (rightsOf t a s)
@@ -110,6 +112,7 @@ module _ (t : Table) (a s : ℕ) (bad : Bool) (need : Need) (met : Bool) (reply 
         done = first-done (unfit (recordAt t a)) (isEmpty (slotAt t a s)) (isDead (targetRecord t a s)) (not met) ∙ ap isDone r;
         target = λ h. refl;
         rights = λ h. refl;
+        kind = λ h. refl;
         actor = λ h. p .actor;
         slot = λ h. p .slot;
         fields = λ h. p .fields;

@@ -9,22 +9,30 @@ use lib.Dec.{ltb, eqb}
 use borrow.Author.Tests.{ltb-false}
 use Rattle.mask.specs.Sets.{has, excluding, subsetOf}
 use Rattle.mask.proofs.Tests.{or-none, or-false, or-assoc}
+use Rattle.table.specs.declared.Record.{Record}
 use Rattle.table.specs.declared.Table.{Table}
-use Rattle.table.specs.Cells.{recordAt, stockAt, isActive}
+use Rattle.table.specs.Cells.{recordAt, isActive}
 use Rattle.requests.specs.declared.Pair.{Pair}
+use Rattle.requests.specs.declared.Need.{Need}
 use Rattle.requests.specs.declared.Need.the-variants.{ReadOrWeak, Write, Send}
 use Rattle.requests.specs.declared.PairList.{PairList}
 use Rattle.requests.specs.declared.Reply.{Reply}
 use Rattle.requests.specs.declared.Reply.the-variants.{Done, TargetPassive, ActorItself, NotInStock}
+use Rattle.requests.specs.declared.Seen.{Seen}
 use Rattle.requests.specs.Asks.{read, write, fetch, store, revoke, send, allocate, destroy, unknown, pairsOf}
 use Rattle.requests.specs.Refusals.{refuse, noObject, noSlot, badList, badField, notInStock, targetOf, laterRows}
-use Rattle.requests.specs.Parts.{PairsFit}
+use Rattle.requests.specs.Parts.{Looked, PairsFit}
 use Rattle.requests.proofs.Pairs.{pairs-fit}
 use Rattle.requests.proofs.Ways.{Uses, Fields, Later}
 
 -- the last checks, of the target: row 7 of a send, row 8 of a destroy
 abbrev pub passiveRow : Table → ℕ → Reply
 passiveRow t g = refuse (not (isActive (recordAt t g))) TargetPassive Done
+
+-- row 7 by the kind that looking saw
+pub passive-seen : {t : Table} {a s : ℕ} {bad : Bool} {need : Need} {seen : Seen} → Looked t a s bad need seen → seen .done ≡ true
+    → passiveRow t (seen .target) ≡ refuse (not (eqb (seen .kind) 1)) TargetPassive Done
+passive-seen looked d = rw (looked .target d, looked .kind d) refl
 
 abbrev pub itselfRow : ℕ → ℕ → Reply
 itselfRow a g = refuse (eqb g a) ActorItself Done
@@ -68,17 +76,17 @@ module _ {t : Table} {a s : ℕ} where
 pub send-list : (l : PairList) (y : ℕ) (b : Bool) → b ≡ badList (pairsOf l) → (b || ltb 8 y) ≡ false → PairsFit l
 send-list l y b e f = pairs-fit l (sym e ∙ or-none b (ltb 8 y) f .0)
 
--- allocate: `b` is what the code found of the list, `h`, `rest` and `w` what it found of the stock -----------------
+-- allocate: `b` is what the code found of the list, `r` the actor's record, `h`, `rest` and `w` what it found of the stock -----
 pub allocate-fields : {a n kind part i : ℕ} {l : List Pair} {b : Bool} → b ≡ badList l
     → Fields (allocate a n kind part i l) (noObject a || noObject n || ltb 1 kind || noSlot i || b)
 unfolding badField
 allocate-fields {a} {n} {kind} {part} {i} {l} {b} e = record { found = ap (λ (x : Bool). noObject a || noObject n || ltb 1 kind || noSlot i || x) (sym e) }
 
-pub allocate-later : {t : Table} {a n kind part i : ℕ} {l : List Pair} {h w : Bool} {rest : ℕ}
-    → h ≡ has n (stockAt t a) → rest ≡ excluding n (stockAt t a) → w ≡ subsetOf part rest
+pub allocate-later : {t : Table} {a n kind part i : ℕ} {l : List Pair} {r : Record} {h w : Bool} {rest : ℕ} → r ≡ recordAt t a
+    → h ≡ has n (r .stock) → rest ≡ excluding n (r .stock) → w ≡ subsetOf part rest
     → Later t (allocate a n kind part i l) (refuse (not h || not w) NotInStock Done)
 unfolding laterRows notInStock
-allocate-later p q r = record { found = rw (p, r, q) refl }
+allocate-later e p q w = record { found = rw (p, w, q, e) refl }
 
 pub record AllocatePlaced (a n i : ℕ) (l : PairList) : Type 0 where
   pub actor : a < 64

@@ -16,7 +16,7 @@ use Rattle.requests.specs.declared.Row.{Row}
 use Rattle.requests.specs.declared.Seen.{Seen}
 use Rattle.requests.specs.Asks.{pairAt}
 use Rattle.requests.specs.Replies.{isDone}
-use Rattle.requests.specs.Refusals.{refuse, noObject, noSlot, unfit, targetOf, rightsOf, throughSlot}
+use Rattle.requests.specs.Refusals.{refuse, noObject, noSlot, unfit, targetOf, targetRecord, rightsOf, throughSlot}
 
 -- the first of rows 2 to 6 whose cause holds
 abbrev pub firstOf : Bool → Bool → Bool → Bool → Bool → Reply
@@ -28,12 +28,13 @@ unfoldable pub slotRows : Table → ℕ → ℕ → Bool → Need → Reply
 slotRows t a s bad need =
     refuse (noObject a || noSlot s || bad) FieldInvalid (refuse (unfit (recordAt t a)) ActorUnfit (throughSlot t a s need Done))
 
--- what looking at the slot tells: the reply, and where that is "done" the slot that it saw
+-- what looking at the slot tells: the reply, and where that is "done" the slot that it saw and its target's kind
 pub record Looked (t : Table) (a s : ℕ) (bad : Bool) (need : Need) (seen : Seen) : Type 0 where
   pub reply : seen .reply ≡ slotRows t a s bad need
   pub done : seen .done ≡ isDone (slotRows t a s bad need)
   pub target : seen .done ≡ true → seen .target ≡ targetOf t a s
   pub rights : seen .done ≡ true → seen .rights ≡ rightsOf t a s
+  pub kind : seen .done ≡ true → seen .kind ≡ targetRecord t a s .kind
   pub actor : seen .done ≡ true → a < 64
   pub slot : seen .done ≡ true → s < 8
   pub fields : seen .done ≡ true → bad ≡ false

@@ -73,6 +73,7 @@ pub fn look(t: Table, actor: u8, s: u8, bad: bool, need: Need) -> Seen
             done: false,
             target: 0,
             rights: 0,
+            kind: 0,
         };
     }
     let k = actor as usize;
@@ -90,5 +91,6 @@ pub fn look(t: Table, actor: u8, s: u8, bad: bool, need: Need) -> Seen
         done: !(unfit | empty | dead | !met),
         target: c.target,
         rights: c.rights,
+        kind: b.kind,
     }
 }

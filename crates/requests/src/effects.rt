@@ -15,6 +15,7 @@ use table::Table;
 ghost use mathlib.Core.Path.{_≡_};
 ghost use mathlib.Core.Bool.{true};
 ghost use Prim.Native.Nat.{_<_};
+ghost use Rattle.table.specs.Cells.{recordAt};
 ghost use Rattle.table.specs.Soundness.{sound};
 ghost use Rattle.requests.specs.Asks.{pairsOf, read as readAsk, write as writeAsk, fetch as fetchAsk, store as storeAsk, revoke as revokeAsk, send as sendAsk, allocate as allocateAsk, destroy as destroyAsk};
 ghost use Rattle.requests.specs.Effects.{sent as sentTo, allocated as allocatedTo, destroyed as destroyedBy};
@@ -175,9 +176,7 @@ pub fn send(t: Table, actor: u8, s: u8, word: u32, l: PairList, reply: u8) -> St
         };
     }
     let g = v.target;
-    let m = g as usize;
-    let b = t.records[m];
-    if !(b.kind == 1) {
+    if !(v.kind == 1) {
         return Stepped {
             reply: Reply::TargetPassive,
             table: t,
@@ -216,6 +215,15 @@ pub fn allocated(t: Table, a: u8, n: u8, kind: u8, part: u64, i: u8, l: PairList
     u
 }
 
+// The record of object n. Read in a function of its own, the table is copied only for as long as the read takes.
+pub fn record_of(t: Table, n: u8) -> Record
+    requires { ⌜ n < 64 ⌝ }
+    ensures { λ r. ⌜ r ≡ recordAt t n ⌝ }
+{
+    let k = n as usize;
+    t.records[k]
+}
+
 // n, of the actor's own stock, becomes alive.
 pub fn allocate(t: Table, actor: u8, n: u8, kind: u8, part: u64, i: u8, l: PairList) -> Stepped
     requires { ⌜ sound t ≡ true ⌝ }
@@ -227,8 +235,7 @@ pub fn allocate(t: Table, actor: u8, n: u8, kind: u8, part: u64, i: u8, l: PairL
             table: t,
         };
     }
-    let k = actor as usize;
-    let a = t.records[k];
+    let a = record_of(t, actor);
     if !(a.status == 1) | !(a.kind == 1) {
         return Stepped {
             reply: Reply::ActorUnfit,

@@ -109,12 +109,14 @@ pub struct Row {
     pub cells: [Capability; 8],
 }
 
-// What the checks of a request through a slot saw: the reply, whether it is "done", and then the slot's capability.
+// What the checks of a request through a slot saw: the reply, whether it is "done", and then the slot's capability and its
+// target's kind.
 pub struct Seen {
     pub reply: Reply,
     pub done: bool,
     pub target: u8,
     pub rights: u8,
+    pub kind: u8,
 }
 
 // One request on a table: the reply, and the table after it. A refused request gives back the very table.

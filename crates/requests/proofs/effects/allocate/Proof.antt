@@ -1,6 +1,7 @@
 -- `allocate` is its step: its fields, its actor and its stock decide in turn, and the effect is what `allocated` ensures. By the
 -- laws of a request through no slot. Assumes nothing.
-use mathlib.Core.Path.{refl}
+use mathlib.Core.Path.{refl, sym, _∙_, ap}
+use Rattle.requests.specs.Refusals.{unfit}
 use Rattle.requests.specs.Effects.{effect}
 use Rattle.requests.proofs.Rows.{refuse-yes, refuse-no}
 use Rattle.requests.proofs.Ways.{rows-invalid, rows-unfit, later-refused, later-done}
@@ -13,16 +14,13 @@ list-bad-requires : tie.Need-list-bad-requires
 list-bad-requires c κs = search needs
 
 returns : tie.Need-returns
-returns c = rows-invalid (c .before .before .args .t1) (c .before .before .pre) (allocate-fields (c .before .list-bad .ensures)) (c .if1 .taken)
+returns c = rows-invalid (c .before .before .args .t) (c .before .before .pre) (allocate-fields (c .before .list-bad .ensures)) (c .if1 .taken)
 
-mul-a : tie.Need-mul-a
-mul-a c = search needs
-
-element-copy-out-a : tie.Need-element-copy-out-a
-element-copy-out-a c = let a = c .before .before .args in allocate-placed (a .actor) (a .n) (a .kind) (a .i) (a .l) (c .before .list-bad .ensures) (c .if1 .left) .actor
+record-of-requires : tie.Need-record-of-requires
+record-of-requires c κs = let a = c .before .before .args in allocate-placed (a .actor) (a .n) (a .kind) (a .i) (a .l) (c .before .list-bad .ensures) (c .if1 .left) .actor
 
 returns-2 : tie.Need-returns-2
-returns-2 c = rows-unfit (c .before .before .before .before .before .before .args .t1) (c .before .before .before .before .before .before .pre) (allocate-fields (c .before .before .before .before .before .list-bad .ensures)) (c .before .before .before .before .if1 .left) (c .if2 .taken)
+returns-2 c = rows-unfit (c .before .before .before .before .before .before .args .t) (c .before .before .before .before .before .before .pre) (allocate-fields (c .before .before .before .before .before .list-bad .ensures)) (c .before .before .before .before .if1 .left) (sym (ap unfit (c .before .before .before .record-of .ensures)) ∙ c .if2 .taken)
 
 has-requires : tie.Need-has-requires
 has-requires c κs = search needs
@@ -34,7 +32,7 @@ subset-requires : tie.Need-subset-requires
 subset-requires c κs = search needs
 
 returns-3 : tie.Need-returns-3
-returns-3 c = later-refused (c .before .before .before .before .before .before .before .before .before .before .pre) (allocate-fields (c .before .before .before .before .before .before .before .before .before .list-bad .ensures)) (c .before .before .before .before .before .before .before .before .if1 .left) (c .before .before .before .before .if2 .left) (allocate-later (c .before .before .before .has .ensures) (c .before .before .without .ensures) (c .before .subset .ensures))
+returns-3 c = later-refused (c .before .before .before .before .before .before .before .before .before .before .pre) (allocate-fields (c .before .before .before .before .before .before .before .before .before .list-bad .ensures)) (c .before .before .before .before .before .before .before .before .if1 .left) (sym (ap unfit (c .before .before .before .before .before .before .before .record-of .ensures)) ∙ c .before .before .before .before .if2 .left) (allocate-later (c .before .before .before .before .before .before .before .record-of .ensures) (c .before .before .before .has .ensures) (c .before .before .without .ensures) (c .before .subset .ensures))
     (refuse-yes _ _ _ (c .if3 .taken)) refl
 
 allocated-requires : tie.Need-allocated-requires
@@ -44,7 +42,7 @@ allocated-requires c κs = let a = c .before .before .before .before .before .be
 
 returns-4 : tie.Need-returns-4
 unfolding effect
-returns-4 c = later-done (c .before .before .before .before .before .before .before .before .before .before .before .pre) (allocate-fields (c .before .before .before .before .before .before .before .before .before .before .list-bad .ensures)) (c .before .before .before .before .before .before .before .before .before .if1 .left) (c .before .before .before .before .before .if2 .left) (allocate-later (c .before .before .before .before .has .ensures) (c .before .before .before .without .ensures) (c .before .before .subset .ensures))
+returns-4 c = later-done (c .before .before .before .before .before .before .before .before .before .before .before .pre) (allocate-fields (c .before .before .before .before .before .before .before .before .before .before .list-bad .ensures)) (c .before .before .before .before .before .before .before .before .before .if1 .left) (sym (ap unfit (c .before .before .before .before .before .before .before .before .record-of .ensures)) ∙ c .before .before .before .before .before .if2 .left) (allocate-later (c .before .before .before .before .before .before .before .before .record-of .ensures) (c .before .before .before .before .has .ensures) (c .before .before .before .without .ensures) (c .before .before .subset .ensures))
     (refuse-no _ _ _ (c .before .if3 .left)) (c .allocated .ensures)
 
 pub allocate-spec : {M : Type 1} → statement M
@@ -53,8 +51,7 @@ allocate-spec =
     (tie.spec
     list-bad-requires
     returns
-    mul-a
-    element-copy-out-a
+    record-of-requires
     returns-2
     has-requires
     without-requires
