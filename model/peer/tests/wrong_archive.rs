@@ -16,11 +16,13 @@ fn first_difference(calls: &impl Calls) -> Option<Box<Difference>> {
     compared.err().map(|found| found.difference)
 }
 
-/// Is the difference in this call, and is it told in full?
-fn is_found(calls: &impl Calls, call: &str, told: &str) {
+/// Is the difference found in this call, and in this part of its answer alone?
+fn is_found(calls: &impl Calls, call: &str, part: &str) {
     let difference = first_difference(calls).expect("the wrong archive is found out");
-    assert_eq!(difference.call, call);
-    assert!(difference.to_string().contains(told), "{difference}");
+    let told = difference.to_string();
+    let first = told.lines().next();
+    let expected = format!("{call} differs from the model in: {part}");
+    assert_eq!(first, Some(expected.as_str()), "{told}");
 }
 
 #[test]
@@ -42,7 +44,7 @@ impl Calls for WrongNumber {
 
 #[test]
 fn a_wrong_number_is_found() {
-    is_found(&WrongNumber, "captable_step", "number: 7");
+    is_found(&WrongNumber, "captable_step", "number");
 }
 
 /// Changes the word of the last record when it refuses by 9.
@@ -60,7 +62,7 @@ impl Calls for TouchedTable {
 
 #[test]
 fn a_table_changed_on_a_refusal_is_found() {
-    is_found(&TouchedTable, "captable_stepped", "number: 9");
+    is_found(&TouchedTable, "captable_stepped", "table given back");
 }
 
 /// Writes one byte after the image.
@@ -78,7 +80,7 @@ impl Calls for TouchedBuffer {
 
 #[test]
 fn a_byte_after_the_image_that_changes_is_found() {
-    is_found(&TouchedBuffer, "captable_write", "buffer: ");
+    is_found(&TouchedBuffer, "captable_write", "buffer");
 }
 
 /// Writes into the request that it may only read.
@@ -96,7 +98,7 @@ impl Calls for TouchedRequest {
 
 #[test]
 fn a_request_that_changes_is_found() {
-    is_found(&TouchedRequest, "captable_step", "request: ");
+    is_found(&TouchedRequest, "captable_step", "request");
 }
 
 /// Leaves a byte of the buffer after the text changed.
@@ -112,7 +114,7 @@ impl Calls for LongText {
 
 #[test]
 fn a_byte_after_the_text_that_changes_is_found() {
-    is_found(&LongText, "captable_confine", "bytes of text");
+    is_found(&LongText, "captable_confine", "buffer");
 }
 
 /// Calls a slot with a target and no rights empty.
@@ -132,5 +134,5 @@ impl Calls for LaxScan {
 
 #[test]
 fn a_scan_that_overlooks_a_clause_is_found() {
-    is_found(&LaxScan, "the scan in C", "number: 0");
+    is_found(&LaxScan, "the scan in C", "number");
 }

@@ -4,7 +4,7 @@
 use yavrinks_model::generate::bounded_fields;
 use yavrinks_model::rng::Rng;
 use yavrinks_model::step::{Pair, Request, MAX_PAIRS, NO_REPLY};
-use yavrinks_model::table::{Record, Table, ACTIVE, OBJECTS, SLOTS};
+use yavrinks_model::table::{Record, Table, ACTIVE, OBJECTS, RD, SLOTS, TX, WK, WR};
 
 /// A code and a reply to aim at; some several times, so that they are drawn more often. Destroys that
 /// are done are rare: a table should not soon be dead.
@@ -114,9 +114,9 @@ fn leads_to(table: &Table, code: u8, aim: u8, actor: u8, t: u8) -> bool {
         return false;
     };
     let needed = match code {
-        1 | 3 => 5,
-        6 => 8,
-        _ => 2,
+        1 | 3 => RD | WK,
+        6 => TX,
+        _ => WR,
     };
     if !target.is_alive() || !used.has_any(needed) {
         return aim == if target.is_alive() { 6 } else { 5 };

@@ -45,6 +45,14 @@ impl Facts {
         self.and(name, Fact::Text(text))
     }
 
+    /// The names under which the other facts, of the same names, say something else.
+    fn names_unlike(&self, other: &Facts) -> Vec<&'static str> {
+        let both = self.0.iter().zip(&other.0);
+        both.filter(|(mine, theirs)| mine != theirs)
+            .map(|(mine, _)| mine.0)
+            .collect()
+    }
+
     fn and(mut self, name: &'static str, fact: Fact) -> Facts {
         self.0.push((name, fact));
         self
@@ -117,8 +125,12 @@ impl fmt::Display for Difference {
     fn fmt(&self, out: &mut fmt::Formatter<'_>) -> fmt::Result {
         write!(
             out,
-            "{} differs from the model\ngiven\n{}the model\n{}the archive\n{}",
-            self.call, self.case, self.model, self.archive
+            "{} differs from the model in: {}\ngiven\n{}the model\n{}the archive\n{}",
+            self.call,
+            self.model.names_unlike(&self.archive).join(", "),
+            self.case,
+            self.model,
+            self.archive
         )
     }
 }

@@ -1,6 +1,7 @@
 //! All calls but the step, on the table as it is and on tables that are aimed at each number.
 
-use yavrinks_model::generate::{confinement_case, damaged_table, Damage, CONFINEMENT_NUMBERS};
+use yavrinks_model::generate::{confinement_case, damaged_table};
+use yavrinks_model::generate::{ConfinementCase, Damage, CONFINEMENT_NUMBERS};
 use yavrinks_model::rng::Rng;
 use yavrinks_model::table::Table;
 
@@ -38,20 +39,41 @@ pub fn sweep(
     Ok(())
 }
 
-/// The confinement test of any members and list on the table, and of a case aimed at a number; some
-/// lists have an odd byte at the end or are much too long.
+/// The confinement test twice: on the table as it is, and on a case aimed at a number.
 fn compare_tests(
     calls: &impl Calls,
     rng: &mut Rng,
     table: &Table,
     counts: &mut Counts,
 ) -> Compared<()> {
-    let alive = (0..64).filter(|&n| table.record(n).is_alive());
-    let members = alive.fold(0, |set, n| set | 1 << n) & (rng.bits() | rng.bits());
-    let length = rng.between(0, 20) as usize;
-    let list = any_bytes(rng, length);
+    let (members, list) = loose_test(rng, table);
     counts.add(Line::Test, compare_test(calls, table, members, &list)?);
+    let (case, list) = aimed_test(rng);
+    let number = compare_test(calls, &case.table, case.members, &list)?;
+    counts.add(Line::Test, number);
+    Ok(())
+}
 
+/// Some or all alive objects, and the bytes of a list: none, or any.
+fn loose_test(rng: &mut Rng, table: &Table) -> (u64, Vec<u8>) {
+    let numbers = (0..64).filter(|&n| table.record(n).is_alive());
+    let alive = numbers.fold(0, |set, n| set | 1 << n);
+    let members = match rng.between(0, 3) {
+        0 => alive,
+        1 => alive & rng.bits() & rng.bits() & rng.bits(),
+        _ => alive & (rng.bits() | rng.bits()),
+    };
+    let length = if rng.percent(60) {
+        0
+    } else {
+        rng.between(0, 20) as usize
+    };
+    (members, any_bytes(rng, length))
+}
+
+/// A case for one of the numbers, with the bytes of its list; some have an odd byte at the end or are
+/// much too long.
+fn aimed_test(rng: &mut Rng) -> (ConfinementCase, Vec<u8>) {
     let aim = rng.pick(&CONFINEMENT_NUMBERS).unwrap_or(0);
     let case = confinement_case(rng, aim);
     let entries = case.list.iter();
@@ -59,15 +81,8 @@ fn compare_tests(
         .flat_map(|&(target, rights)| [target, rights])
         .collect();
     if rng.percent(10) {
-        let more = if rng.percent(50) {
-            1
-        } else {
-            rng.between(1, 300)
-        };
-        let more = any_bytes(rng, more as usize);
-        list.extend(more);
+        let more = rng.pick(&[1, 1, 2, 17, 300]).unwrap_or(1);
+        list.extend(any_bytes(rng, more));
     }
-    let number = compare_test(calls, &case.table, case.members, &list)?;
-    counts.add(Line::Test, number);
-    Ok(())
+    (case, list)
 }
