@@ -1,0 +1,69 @@
+/* The soundness of a table, clause by clause from document 01, as one would write it in C. It ends at
+   the first offence. The structs are laid out as libcaptable.a has them. */
+
+#include <stdint.h>
+
+struct capability {
+    uint8_t target;
+    uint8_t rights;
+};
+
+struct record {
+    uint8_t status;
+    uint8_t kind;
+    uint32_t word;
+    uint64_t stock;
+};
+
+/* Slot j of object n is at n * 8 + j. */
+struct table {
+    struct record records[64];
+    struct capability slots[512];
+};
+
+enum { UNBORN = 0, ALIVE = 1, DEAD = 2 };
+
+static int born(const struct table *table, uint8_t n) {
+    return n < 64 && (table->records[n].status == ALIVE || table->records[n].status == DEAD);
+}
+
+/* The record without its slots and without regard to other records. */
+static int record_sound(const struct record *record) {
+    if (record->status > DEAD || record->kind > 1)
+        return 0;
+    if (record->status == UNBORN && record->kind != 0)
+        return 0;
+    return record->status == ALIVE || (record->word == 0 && record->stock == 0);
+}
+
+/* A filled slot stands in an alive record, names a born target and has rights 1 to 15. */
+static int slots_sound(const struct table *table, int n) {
+    for (int j = 0; j < 8; j++) {
+        const struct capability *slot = &table->slots[n * 8 + j];
+        if (slot->target == 0 && slot->rights == 0)
+            continue;
+        if (table->records[n].status != ALIVE || slot->rights < 1 || slot->rights > 15 ||
+            !born(table, slot->target))
+            return 0;
+    }
+    return 1;
+}
+
+/* 0 for a sound table, 1 for any other. */
+uint8_t peer_scan(const struct table *table) {
+    uint64_t unborn = 0, stocked = 0;
+    for (int n = 0; n < 64; n++)
+        if (table->records[n].status == UNBORN)
+            unborn |= UINT64_C(1) << n;
+    for (int n = 0; n < 64; n++) {
+        const struct record *record = &table->records[n];
+        if (!record_sound(record))
+            return 1;
+        if ((record->stock & stocked) != 0 || (record->stock & ~unborn) != 0)
+            return 1;
+        stocked |= record->stock;
+        if (!slots_sound(table, n))
+            return 1;
+    }
+    return 0;
+}

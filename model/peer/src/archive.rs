@@ -1,0 +1,74 @@
+//! The calls that are compared. The bodies below are those of the linked archive; a test overrides one
+//! of them to see a wrong archive found out.
+//!
+//! What a call may only read is lent to be changed all the same, so that a call that wrote there would
+//! be found out too.
+
+use captable::raw;
+
+extern "C" {
+    /// The soundness scan in C.
+    fn peer_scan(table: *const raw::Table) -> u8;
+}
+
+/// The archive's calls, and the scan in C.
+pub trait Calls {
+    /// 0 for a sound table, 1 for any other.
+    fn sound(&self, table: &mut raw::Table) -> u8 {
+        // SAFETY: the call takes a value alone.
+        unsafe { raw::captable_sound(*table) }
+    }
+
+    /// One request on a table that is lent.
+    fn step(&self, table: &mut raw::Table, request: &mut [u8]) -> u8 {
+        // SAFETY: the table is borrowed for the call alone; pointer and length are of one slice.
+        unsafe { raw::captable_step(table, request.as_mut_ptr(), request.len()) }
+    }
+
+    /// One request on a table by value.
+    fn stepped(&self, table: &mut raw::Table, request: &mut [u8]) -> raw::Outcome {
+        // SAFETY: pointer and length are of one slice.
+        unsafe { raw::captable_stepped(*table, request.as_mut_ptr(), request.len()) }
+    }
+
+    /// Potential access.
+    fn access(&self, table: &mut raw::Table) -> raw::Relation {
+        // SAFETY: the call takes a value alone.
+        unsafe { raw::captable_access(*table) }
+    }
+
+    /// The confinement test.
+    fn test(&self, table: &mut raw::Table, members: u64, list: &mut [u8]) -> raw::Finding {
+        // SAFETY: pointer and length are of one slice.
+        unsafe { raw::captable_test(*table, members, list.as_mut_ptr(), list.len()) }
+    }
+
+    /// Reads an image.
+    fn read(&self, image: &mut [u8]) -> raw::Outcome {
+        // SAFETY: pointer and length are of one slice.
+        unsafe { raw::captable_read(image.as_mut_ptr(), image.len()) }
+    }
+
+    /// Writes an image into a buffer.
+    fn write(&self, table: &mut raw::Table, buffer: &mut [u8]) -> u8 {
+        // SAFETY: pointer and length are of one slice, which is borrowed for the call alone.
+        unsafe { raw::captable_write(*table, buffer.as_mut_ptr(), buffer.len()) }
+    }
+
+    /// Puts what `confine` prints into the buffer, and says how many bytes that is.
+    fn confine(&self, input: &mut [u8], out: &mut [u8; 256]) -> usize {
+        // SAFETY: pointer and length are of one slice; the buffer is borrowed for the call alone.
+        unsafe { raw::captable_confine(input.as_mut_ptr(), input.len(), out) }
+    }
+
+    /// The scan in C: 0 for a sound table, 1 for any other.
+    fn scan(&self, table: &raw::Table) -> u8 {
+        // SAFETY: the scan reads one table, laid out as the archive has it.
+        unsafe { peer_scan(table) }
+    }
+}
+
+/// The linked archive.
+pub struct Archive;
+
+impl Calls for Archive {}

@@ -1,0 +1,83 @@
+//! The archive's calls by name, what each of them is given, and the number that it answers.
+
+use yavrinks_model::table::Table;
+
+use crate::archive::{Archive, Calls};
+use crate::convert::to_raw;
+use crate::differential::number_of;
+
+/// An exported call.
+#[derive(Clone, Copy, Debug, PartialEq, Eq)]
+pub enum Call {
+    Step,
+    Stepped,
+    Sound,
+    Access,
+    Test,
+    Read,
+    Write,
+    Confine,
+}
+
+impl Call {
+    pub const ALL: [Call; 8] = [
+        Call::Step,
+        Call::Stepped,
+        Call::Sound,
+        Call::Access,
+        Call::Test,
+        Call::Read,
+        Call::Write,
+        Call::Confine,
+    ];
+
+    /// The name that the archive exports.
+    pub fn name(self) -> &'static str {
+        match self {
+            Call::Step => "captable_step",
+            Call::Stepped => "captable_stepped",
+            Call::Sound => "captable_sound",
+            Call::Access => "captable_access",
+            Call::Test => "captable_test",
+            Call::Read => "captable_read",
+            Call::Write => "captable_write",
+            Call::Confine => "captable_confine",
+        }
+    }
+
+    /// Is the table pushed by the caller?
+    pub fn takes_table(self) -> bool {
+        !matches!(self, Call::Step | Call::Read | Call::Confine)
+    }
+}
+
+/// What a call is given. Of each field only what the call takes is used.
+#[derive(Clone, Debug)]
+pub struct Sample {
+    pub name: String,
+    /// The number that the model gives for it.
+    pub number: u8,
+    pub table: Table,
+    pub members: u64,
+    /// The request, the list, the image, the input or the buffer.
+    pub bytes: Vec<u8>,
+}
+
+/// The number that the archive gives.
+pub fn answer(call: Call, sample: &Sample) -> u8 {
+    let (mut table, mut bytes) = (to_raw(&sample.table), sample.bytes.clone());
+    match call {
+        Call::Step => Archive.step(&mut table, &mut bytes),
+        Call::Stepped => Archive.stepped(&mut table, &mut bytes).number,
+        Call::Sound => Archive.sound(&mut table),
+        Call::Access => Archive.access(&mut table).number,
+        Call::Test => Archive.test(&mut table, sample.members, &mut bytes).number,
+        Call::Read => Archive.read(&mut bytes).number,
+        Call::Write => Archive.write(&mut table, &mut bytes),
+        Call::Confine => {
+            let mut out = [0; 256];
+            let count = Archive.confine(&mut bytes, &mut out);
+            number_of(&String::from_utf8_lossy(&out[..count.min(256)]))
+        }
+    }
+}

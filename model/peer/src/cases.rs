@@ -1,0 +1,196 @@
+//! The inputs that stack and instructions are measured on: for each call some that are done and some
+//! that are refused, on table K, on the filled table, and on long chains where reaching takes longest.
+
+use yavrinks_model::access::potential_access;
+use yavrinks_model::confine::confine;
+use yavrinks_model::confinement::{confinement_test, Entry};
+use yavrinks_model::generate::{encode_input, ConfinementCase};
+use yavrinks_model::image::{self, IMAGE_LENGTH};
+use yavrinks_model::set;
+use yavrinks_model::step::step;
+use yavrinks_model::table::Table;
+
+use crate::calls::{Call, Sample};
+use crate::differential::number_of;
+use crate::samples::{chain_table, held_list, places, requests, unsound_at_the_end, Place};
+use crate::wire::bytes_of;
+
+/// The inputs of a call.
+pub fn samples(call: Call) -> Vec<Sample> {
+    let places = places();
+    match call {
+        Call::Step | Call::Stepped => places.iter().flat_map(steps).collect(),
+        Call::Sound => tables().into_iter().map(sound).collect(),
+        Call::Access => tables().into_iter().map(access).collect(),
+        Call::Test => tests().into_iter().map(test).collect(),
+        Call::Read => places.iter().flat_map(reads).collect(),
+        Call::Write => places.iter().flat_map(writes).collect(),
+        Call::Confine => tests().into_iter().map(confined).chain([short()]).collect(),
+    }
+}
+
+/// Every request of a place, and one on its table made unsound.
+fn steps(place: &Place) -> Vec<Sample> {
+    let asked = requests(&place.table);
+    let unsound = unsound_at_the_end(&place.table);
+    let first = asked.first().cloned();
+    let of = |table: &Table, name: &str, request| Sample {
+        name: format!("{name}, {}", place.name),
+        number: step(table, &request).0,
+        table: table.clone(),
+        members: 0,
+        bytes: bytes_of(&request),
+    };
+    let unsound = first.map(|(_, request)| of(&unsound, "unsound table", request));
+    let asked = asked.into_iter();
+    asked
+        .map(|(name, request)| of(&place.table, &name, request))
+        .chain(unsound)
+        .collect()
+}
+
+/// The tables of the calls that take a table alone.
+fn tables() -> Vec<(String, Table)> {
+    let mut tables = vec![
+        (String::from("chain"), chain_table(false)),
+        (String::from("chain turned about"), chain_table(true)),
+    ];
+    for place in places() {
+        let unsound = unsound_at_the_end(&place.table);
+        tables.push((format!("unsound, {}", place.name), unsound));
+        tables.push((place.name.to_string(), place.table));
+    }
+    tables
+}
+
+fn sound((name, table): (String, Table)) -> Sample {
+    Sample {
+        name,
+        number: u8::from(!table.is_sound()),
+        table,
+        members: 0,
+        bytes: Vec::new(),
+    }
+}
+
+fn access((name, table): (String, Table)) -> Sample {
+    Sample {
+        name,
+        number: potential_access(&table).0,
+        table,
+        members: 0,
+        bytes: Vec::new(),
+    }
+}
+
+/// Tests: accepted ones, and ones refused by each number.
+fn tests() -> Vec<(String, ConfinementCase)> {
+    let mut tests = Vec::new();
+    for place in places() {
+        let (name, table, member) = (place.name, place.table, place.member);
+        let list = entries(&held_list(&table, member));
+        let mut add = |what: &str, table: &Table, members: u64, list: &[Entry]| {
+            let case = ConfinementCase {
+                table: table.clone(),
+                members,
+                list: list.to_vec(),
+            };
+            tests.push((format!("{what}, {name}"), case));
+        };
+        add("accepted", &table, set::single(member), &list);
+        add(
+            "unsound",
+            &unsound_at_the_end(&table),
+            set::single(member),
+            &list,
+        );
+        add("no members", &table, 0, &list);
+        add("nine entries", &table, set::single(member), &[(0, 1); 9]);
+        add("unlisted", &table, set::single(member), &[]);
+        add("member named", &table, set::of(&[1, member]), &list);
+    }
+    tests.push((String::from("chain"), chain_test(false, 0, 1)));
+    tests.push((String::from("chain turned about"), chain_test(true, 63, 62)));
+    tests
+}
+
+/// The end of a chain that nobody names is the member, and holds rd over the next.
+fn chain_test(turned: bool, member: u8, next: u8) -> ConfinementCase {
+    ConfinementCase {
+        table: chain_table(turned),
+        members: set::single(member),
+        list: vec![(next, 1)],
+    }
+}
+
+fn entries(list: &[u8]) -> Vec<Entry> {
+    list.chunks_exact(2).map(|two| (two[0], two[1])).collect()
+}
+
+fn test((name, case): (String, ConfinementCase)) -> Sample {
+    Sample {
+        name,
+        number: confinement_test(&case.table, case.members, &case.list).0,
+        bytes: case.list.iter().flat_map(|&(a, b)| [a, b]).collect(),
+        table: case.table,
+        members: case.members,
+    }
+}
+
+fn confined((name, case): (String, ConfinementCase)) -> Sample {
+    input(name, encode_input(&case))
+}
+
+/// An input of `confine` that is too short.
+fn short() -> Sample {
+    input(String::from("one byte"), vec![7])
+}
+
+fn input(name: String, bytes: Vec<u8>) -> Sample {
+    Sample {
+        name,
+        number: number_of(&confine(&bytes)),
+        table: Table::unborn(),
+        members: 0,
+        bytes,
+    }
+}
+
+/// Images of a place: right, short, of another version, and not sound.
+fn reads(place: &Place) -> Vec<Sample> {
+    let right = image::encode(&place.table);
+    let mut version = right.clone();
+    version[2] = 0;
+    let images = [
+        ("right", right.clone()),
+        ("short", right[1..].to_vec()),
+        ("version 0", version),
+        ("unsound", image::encode(&unsound_at_the_end(&place.table))),
+    ];
+    let of = |(name, bytes): (&str, Vec<u8>)| Sample {
+        name: format!("{name}, {}", place.name),
+        number: image::read(&bytes).0,
+        table: Table::unborn(),
+        members: 0,
+        bytes,
+    };
+    images.into_iter().map(of).collect()
+}
+
+/// Writes of a place: into a buffer, into a short one, and of a table that is not sound.
+fn writes(place: &Place) -> Vec<Sample> {
+    let unsound = unsound_at_the_end(&place.table);
+    let cases = [
+        ("written", &place.table, IMAGE_LENGTH),
+        ("short buffer", &place.table, IMAGE_LENGTH - 1),
+        ("unsound", &unsound, IMAGE_LENGTH),
+    ];
+    let of = |(name, table, length): (&str, &Table, usize)| Sample {
+        name: format!("{name}, {}", place.name),
+        number: image::write(table, &mut vec![0; length]),
+        table: table.clone(),
+        members: 0,
+        bytes: vec![0; length],
+    };
+    cases.into_iter().map(of).collect()
+}

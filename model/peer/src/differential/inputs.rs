@@ -1,0 +1,124 @@
+//! Images and inputs of `confine`: right ones, aimed ones, and what damage makes of them.
+
+use yavrinks_model::generate::{confine_input, image_case, CONFINE_NUMBERS, IMAGE_NUMBERS};
+use yavrinks_model::image::{HEAD_LENGTH, IMAGE_LENGTH, RECORD_LENGTH};
+use yavrinks_model::rng::Rng;
+
+use super::draw::any_bytes;
+
+/// How often bytes are damaged in a new way before others are made.
+const USES: u32 = 4;
+
+/// A kind of bytes: made for one of the numbers, then used some times.
+pub struct Source {
+    make: fn(&mut Rng, u8) -> Vec<u8>,
+    numbers: &'static [u8],
+    bytes: Vec<u8>,
+    left: u32,
+}
+
+impl Source {
+    /// Images, for every number that reading gives.
+    pub fn images() -> Source {
+        Source::new(image_case, &IMAGE_NUMBERS)
+    }
+
+    /// Inputs of `confine`, for every number that it prints.
+    pub fn confine_inputs() -> Source {
+        Source::new(confine_input, &CONFINE_NUMBERS)
+    }
+
+    fn new(make: fn(&mut Rng, u8) -> Vec<u8>, numbers: &'static [u8]) -> Source {
+        Source {
+            make,
+            numbers,
+            bytes: Vec::new(),
+            left: 0,
+        }
+    }
+
+    /// The next bytes: new ones as they were made, then the same ones damaged.
+    pub fn next(&mut self, rng: &mut Rng) -> Vec<u8> {
+        if self.left == 0 {
+            let number = self.numbers[rng.between(0, self.numbers.len() as u64 - 1) as usize];
+            self.bytes = (self.make)(rng, number);
+            self.left = USES;
+        }
+        self.left -= 1;
+        let mut bytes = self.bytes.clone();
+        if self.left + 1 < USES {
+            damage(rng, &mut bytes);
+        }
+        bytes
+    }
+}
+
+/// Damage of one kind.
+fn damage(rng: &mut Rng, bytes: &mut Vec<u8>) {
+    let length = bytes.len();
+    match rng.between(0, 99) {
+        0..=24 => put_bytes(rng, bytes, 0, length, 1),
+        25..=39 => {
+            let count = rng.between(2, 12);
+            put_bytes(rng, bytes, 0, length, count);
+        }
+        40..=44 => put_bytes(rng, bytes, 0, 2, 1),
+        45..=49 => put_bytes(rng, bytes, 2, HEAD_LENGTH, 1),
+        50..=59 => put_status_or_kind(rng, bytes),
+        // Members, count and list of an input of `confine`; the last record of an image.
+        60..=79 => put_bytes(rng, bytes, IMAGE_LENGTH - RECORD_LENGTH / 2, length, 1),
+        80..=86 => {
+            let kept = if rng.percent(50) {
+                1
+            } else {
+                rng.between(0, length as u64)
+            };
+            bytes.truncate(length.saturating_sub(kept as usize));
+        }
+        87..=92 => {
+            let more = if rng.percent(50) {
+                1
+            } else {
+                rng.between(1, 600)
+            };
+            let more = any_bytes(rng, more as usize);
+            bytes.extend(more);
+        }
+        _ => *bytes = noise(rng),
+    }
+}
+
+/// Random values in some places from `start` to before `end`.
+fn put_bytes(rng: &mut Rng, bytes: &mut [u8], start: usize, end: usize, count: u64) {
+    let end = end.min(bytes.len());
+    if start >= end {
+        return;
+    }
+    for _ in 0..count {
+        let place = rng.between(start as u64, end as u64 - 1) as usize;
+        bytes[place] = match rng.between(0, 2) {
+            0 => bytes[place] ^ 1 << rng.between(0, 7),
+            1 => rng.byte(0, 16),
+            _ => rng.bits() as u8,
+        };
+    }
+}
+
+/// Another small value as a record's status or kind.
+fn put_status_or_kind(rng: &mut Rng, bytes: &mut [u8]) {
+    let place = HEAD_LENGTH + RECORD_LENGTH * rng.between(0, 63) as usize;
+    if let Some(byte) = bytes.get_mut(place + rng.between(0, 1) as usize) {
+        *byte = rng.byte(0, 3);
+    }
+}
+
+/// Random bytes of any length, or of an image's length with its head.
+fn noise(rng: &mut Rng) -> Vec<u8> {
+    if rng.percent(50) {
+        let length = rng.between(0, 2600) as usize;
+        return any_bytes(rng, length);
+    }
+    let mut bytes = any_bytes(rng, IMAGE_LENGTH);
+    bytes[..HEAD_LENGTH].copy_from_slice(&[0x07, 0x83, 0x01]);
+    bytes
+}

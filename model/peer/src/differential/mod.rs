@@ -1,0 +1,126 @@
+//! The archive and the model on the same requests, images and inputs. All of them follow from the
+//! seed, so that the same command does the same on every machine.
+
+mod aim;
+mod counts;
+mod course;
+mod draw;
+mod facts;
+mod inputs;
+mod steps;
+mod sweep;
+mod wholes;
+
+pub use counts::{Counts, Line};
+pub use facts::{Compared, Difference};
+pub use steps::{compare_step, Ask, Twin};
+pub use wholes::{
+    compare_access, compare_confine, compare_read, compare_sound, compare_test, compare_write,
+    number_of,
+};
+
+use std::process::ExitCode;
+
+use yavrinks_model::rng::Rng;
+
+use crate::archive::{Archive, Calls};
+use course::Course;
+use draw::any_bytes;
+use inputs::Source;
+use sweep::sweep;
+
+/// After so many requests the other calls are compared on the table as it is.
+const BETWEEN_SWEEPS: u64 = 512;
+
+/// A difference, and the place in the run where it was met.
+#[derive(Debug)]
+pub struct Found {
+    pub place: String,
+    pub difference: Box<Difference>,
+}
+
+/// Compares the linked archive with the model, and prints what was compared or the first difference.
+pub fn command(seed: u64, requests: u64, inputs: u64) -> ExitCode {
+    let mut counts = Counts::default();
+    let compared = compare_requests(&Archive, seed, requests, &mut counts)
+        .and_then(|()| compare_inputs(&Archive, seed, inputs, &mut counts));
+    match compared {
+        Ok(()) => {
+            println!(
+                "seed {seed}: {requests} requests, each lent and by value; {inputs} images read;"
+            );
+            println!("{inputs} inputs of confine; the other calls after each {BETWEEN_SWEEPS} requests\n");
+            println!("{counts}\nno difference");
+            ExitCode::SUCCESS
+        }
+        Err(found) => {
+            println!("seed {seed}, {}: {}", found.place, found.difference);
+            ExitCode::FAILURE
+        }
+    }
+}
+
+/// Requests on tables that they change, in both forms, and the other calls at times.
+pub fn compare_requests(
+    calls: &impl Calls,
+    seed: u64,
+    requests: u64,
+    counts: &mut Counts,
+) -> Result<(), Found> {
+    let mut rng = Rng::new(seed);
+    let mut course = Course::new(&mut rng);
+    for k in 0..requests {
+        let found = |difference| Found {
+            place: format!("request {k}"),
+            difference,
+        };
+        course.advance(&mut rng);
+        let ask = draw::draw(&mut rng, &course.twin.model);
+        let number = compare_step(calls, &mut course.twin, &ask).map_err(found)?;
+        counts.add(line_of(&ask), number);
+        if k % BETWEEN_SWEEPS == 0 {
+            sweep(calls, &mut rng, &course.twin.model, counts).map_err(found)?;
+        }
+    }
+    Ok(())
+}
+
+/// The line of the summary that bytes belong to.
+fn line_of(ask: &Ask) -> Line {
+    match (&ask.request, ask.bytes.first()) {
+        (Some(request), _) if (1..=8).contains(&request.code()) => Line::Code(request.code()),
+        (_, Some(1..=8) | None) => Line::NoRequest,
+        _ => Line::OtherCode,
+    }
+}
+
+/// Images that are read, and as many inputs of `confine`.
+pub fn compare_inputs(
+    calls: &impl Calls,
+    seed: u64,
+    inputs: u64,
+    counts: &mut Counts,
+) -> Result<(), Found> {
+    // Another seed than that of the requests, which does not depend on how many they are.
+    let mut rng = Rng::new(!seed);
+    let (mut images, mut sources) = (Source::images(), Source::confine_inputs());
+    for k in 0..inputs {
+        let found = |what: &'static str| {
+            move |difference| Found {
+                place: format!("{what} {k}"),
+                difference,
+            }
+        };
+        let image = images.next(&mut rng);
+        counts.add(
+            Line::Read,
+            compare_read(calls, &image).map_err(found("image"))?,
+        );
+        let input = sources.next(&mut rng);
+        let mut buffer = [0; 256];
+        buffer.copy_from_slice(&any_bytes(&mut rng, 256));
+        let number = compare_confine(calls, &input, &buffer).map_err(found("input of confine"))?;
+        counts.add(Line::Confine, number);
+    }
+    Ok(())
+}

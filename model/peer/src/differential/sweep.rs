@@ -1,0 +1,88 @@
+//! All calls but the step, on the table as it is and on tables that are aimed at each number.
+
+use yavrinks_model::generate::{confinement_case, damaged_table};
+use yavrinks_model::generate::{ConfinementCase, Damage, CONFINEMENT_NUMBERS};
+use yavrinks_model::rng::Rng;
+use yavrinks_model::table::Table;
+
+use super::counts::{Counts, Line};
+use super::course::put_anything;
+use super::draw::any_bytes;
+use super::facts::Compared;
+use super::wholes::{compare_access, compare_sound, compare_test, compare_write};
+use crate::archive::Calls;
+
+/// The calls on a whole table: the one given, and others that are aimed at each number.
+pub fn sweep(
+    calls: &impl Calls,
+    rng: &mut Rng,
+    table: &Table,
+    counts: &mut Counts,
+) -> Compared<()> {
+    let kind = rng.pick(&Damage::ALL).unwrap_or(Damage::StatusValue);
+    let mut touched = table.clone();
+    put_anything(rng, &mut touched);
+    for table in [table, &touched, &damaged_table(rng, kind)] {
+        counts.add(Line::Sound, compare_sound(calls, table)?);
+    }
+    counts.add(Line::Access, compare_access(calls, table)?);
+    compare_tests(calls, rng, table, counts)?;
+    let length = match rng.between(0, 9) {
+        0 => rng.between(0, 1922),
+        1 => 1922,
+        2..=5 => 1923,
+        6 => 1924,
+        _ => rng.between(1923, 2500),
+    };
+    let buffer = any_bytes(rng, length as usize);
+    counts.add(Line::Write, compare_write(calls, table, &buffer)?);
+    Ok(())
+}
+
+/// The confinement test twice: on the table as it is, and on a case aimed at a number.
+fn compare_tests(
+    calls: &impl Calls,
+    rng: &mut Rng,
+    table: &Table,
+    counts: &mut Counts,
+) -> Compared<()> {
+    let (members, list) = loose_test(rng, table);
+    counts.add(Line::Test, compare_test(calls, table, members, &list)?);
+    let (case, list) = aimed_test(rng);
+    let number = compare_test(calls, &case.table, case.members, &list)?;
+    counts.add(Line::Test, number);
+    Ok(())
+}
+
+/// Some or all alive objects, and the bytes of a list: none, or any.
+fn loose_test(rng: &mut Rng, table: &Table) -> (u64, Vec<u8>) {
+    let numbers = (0..64).filter(|&n| table.record(n).is_alive());
+    let alive = numbers.fold(0, |set, n| set | 1 << n);
+    let members = match rng.between(0, 3) {
+        0 => alive,
+        1 => alive & rng.bits() & rng.bits() & rng.bits(),
+        _ => alive & (rng.bits() | rng.bits()),
+    };
+    let length = if rng.percent(60) {
+        0
+    } else {
+        rng.between(0, 20) as usize
+    };
+    (members, any_bytes(rng, length))
+}
+
+/// A case for one of the numbers, with the bytes of its list; some have an odd byte at the end or are
+/// much too long.
+fn aimed_test(rng: &mut Rng) -> (ConfinementCase, Vec<u8>) {
+    let aim = rng.pick(&CONFINEMENT_NUMBERS).unwrap_or(0);
+    let case = confinement_case(rng, aim);
+    let entries = case.list.iter();
+    let mut list: Vec<u8> = entries
+        .flat_map(|&(target, rights)| [target, rights])
+        .collect();
+    if rng.percent(10) {
+        let more = rng.pick(&[1, 1, 2, 17, 300]).unwrap_or(1);
+        list.extend(any_bytes(rng, more));
+    }
+    (case, list)
+}

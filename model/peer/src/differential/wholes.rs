@@ -1,0 +1,188 @@
+//! The calls on a whole table or on bytes: soundness, potential access, the confinement test, images
+//! and what `confine` prints, each on the same input in the model and in the archive.
+
+use captable::raw;
+use yavrinks_model::access::{potential_access, Access};
+use yavrinks_model::confine::confine;
+use yavrinks_model::confinement::{confinement_test, Entry};
+use yavrinks_model::image;
+use yavrinks_model::table::Table;
+
+use super::facts::{same, Compared, Facts};
+use crate::archive::Calls;
+use crate::convert::to_raw;
+
+/// Soundness, by the archive and by the scan in C.
+pub fn compare_sound(calls: &impl Calls, table: &Table) -> Compared<u8> {
+    let given = to_raw(table);
+    let number = u8::from(!table.is_sound());
+    let facts = |number: u8, table: &raw::Table| {
+        Facts::new()
+            .number("number", number)
+            .table("table that was given", table)
+    };
+    let case = || Facts::new().table("table", &given);
+    let mut lent = given;
+    let found = calls.sound(&mut lent);
+    same(
+        "captable_sound",
+        case,
+        facts(number, &given),
+        facts(found, &lent),
+    )?;
+    let found = calls.scan(&lent);
+    same(
+        "the scan in C",
+        case,
+        facts(number, &given),
+        facts(found, &lent),
+    )?;
+    Ok(number)
+}
+
+/// The rows of a relation: the one at 64 * right + holder has the targets.
+fn rows_of(access: &Access) -> [u64; 256] {
+    let mut rows = [0; 256];
+    for (x, rights_of_x) in access.rights.iter().enumerate() {
+        for (y, rights) in rights_of_x.iter().enumerate() {
+            for right in 0..4 {
+                rows[64 * right + x] |= u64::from(rights >> right & 1) << y;
+            }
+        }
+    }
+    rows
+}
+
+/// Potential access, all 256 rows.
+pub fn compare_access(calls: &impl Calls, table: &Table) -> Compared<u8> {
+    let given = to_raw(table);
+    let (number, access) = potential_access(table);
+    let mut lent = given;
+    let found = calls.access(&mut lent);
+    let facts = |number: u8, rows: &[u64], table: &raw::Table| {
+        Facts::new()
+            .number("number", number)
+            .sets("rows", rows)
+            .table("table that was given", table)
+    };
+    same(
+        "captable_access",
+        || Facts::new().table("table", &given),
+        facts(number, &rows_of(&access), &given),
+        facts(found.number, &found.rows, &lent),
+    )?;
+    Ok(number)
+}
+
+/// The list that bytes are. Bytes of odd length are no list, and count as one that is too long.
+fn entries_of(bytes: &[u8]) -> Vec<Entry> {
+    if !bytes.len().is_multiple_of(2) {
+        return vec![(0, 0); 9];
+    }
+    bytes.chunks_exact(2).map(|two| (two[0], two[1])).collect()
+}
+
+/// The confinement test of any members and any bytes of a list.
+pub fn compare_test(calls: &impl Calls, table: &Table, members: u64, list: &[u8]) -> Compared<u8> {
+    let given = to_raw(table);
+    let (number, bound) = confinement_test(table, members, &entries_of(list));
+    let (mut lent, mut bytes) = (given, Box::<[u8]>::from(list));
+    let found = calls.test(&mut lent, members, &mut bytes);
+    let facts = |number: u8, bound: u64, table: &raw::Table, bytes: &[u8]| {
+        Facts::new()
+            .number("number", number)
+            .sets("bound", &[bound])
+            .table("table that was given", table)
+            .bytes("list", bytes)
+    };
+    let case = || {
+        Facts::new()
+            .table("table", &given)
+            .sets("members", &[members])
+            .bytes("list", list)
+    };
+    same(
+        "captable_test",
+        case,
+        facts(number, bound, &given, list),
+        facts(found.number, found.bound, &lent, &bytes),
+    )?;
+    Ok(number)
+}
+
+/// Writing into a copy of the buffer; what was written is then read.
+pub fn compare_write(calls: &impl Calls, table: &Table, buffer: &[u8]) -> Compared<u8> {
+    let given = to_raw(table);
+    let mut expected = Box::<[u8]>::from(buffer);
+    let number = image::write(table, &mut expected);
+    let (mut lent, mut found) = (given, Box::<[u8]>::from(buffer));
+    let answer = calls.write(&mut lent, &mut found);
+    let facts = |number: u8, buffer: &[u8], table: &raw::Table| {
+        Facts::new()
+            .number("number", number)
+            .bytes("buffer", buffer)
+            .table("table that was given", table)
+    };
+    let case = || Facts::new().table("table", &given).bytes("buffer", buffer);
+    same(
+        "captable_write",
+        case,
+        facts(number, &expected, &given),
+        facts(answer, &found, &lent),
+    )?;
+    if number == 0 {
+        compare_read(calls, &found[..image::IMAGE_LENGTH])?;
+    }
+    Ok(number)
+}
+
+/// Reading any bytes.
+pub fn compare_read(calls: &impl Calls, bytes: &[u8]) -> Compared<u8> {
+    let (number, table) = image::read(bytes);
+    let mut lent = Box::<[u8]>::from(bytes);
+    let found = calls.read(&mut lent);
+    let facts = |number: u8, table: &raw::Table, bytes: &[u8]| {
+        Facts::new()
+            .number("number", number)
+            .table("table", table)
+            .bytes("image", bytes)
+    };
+    same(
+        "captable_read",
+        || Facts::new().bytes("image", bytes),
+        facts(number, &to_raw(&table), bytes),
+        facts(found.number, &found.table, &lent),
+    )?;
+    Ok(number)
+}
+
+/// What `confine` prints for any bytes; the bytes of the buffer after the text stay.
+pub fn compare_confine(calls: &impl Calls, input: &[u8], buffer: &[u8; 256]) -> Compared<u8> {
+    let text = confine(input);
+    let mut expected = *buffer;
+    expected[..text.len()].copy_from_slice(text.as_bytes());
+    let (mut lent, mut found) = (Box::<[u8]>::from(input), Box::new(*buffer));
+    let count = calls.confine(&mut lent, &mut found);
+    let facts = |count: usize, buffer: &[u8], input: &[u8]| {
+        Facts::new()
+            .number("bytes of text", count as u64)
+            .bytes("buffer", buffer)
+            .bytes("input", input)
+    };
+    let case = || Facts::new().bytes("input", input).bytes("buffer", buffer);
+    same(
+        "captable_confine",
+        case,
+        facts(text.len(), &expected, input),
+        facts(count, &*found, &lent),
+    )?;
+    Ok(number_of(&text))
+}
+
+/// The number of a text that `confine` prints: 0 for `accepted`.
+pub fn number_of(text: &str) -> u8 {
+    text.trim()
+        .strip_prefix("refused ")
+        .and_then(|number| number.parse().ok())
+        .unwrap_or(0)
+}

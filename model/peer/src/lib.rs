@@ -1,0 +1,14 @@
+//! Holds the proved archive `libcaptable.a` to the reference model: the same answers on millions of
+//! requests, images and inputs, and what each call costs in time, stack and instructions.
+
+pub mod archive;
+pub mod bench;
+pub mod calls;
+pub mod cases;
+pub mod convert;
+pub mod differential;
+pub mod instructions;
+pub mod samples;
+pub mod stack;
+pub mod usage;
+pub mod wire;

@@ -1,0 +1,177 @@
+//! The tables and requests that time, stack and instructions are measured on.
+
+use yavrinks_model::generate::{numbers_where, sound_table, Shape};
+use yavrinks_model::rng::Rng;
+use yavrinks_model::set;
+use yavrinks_model::step::{step_in_place, Request};
+use yavrinks_model::table::{Capability, Record, Table, RD, WR};
+
+/// A table to measure on, with an object that no other names: the member of its confinement test.
+#[derive(Clone, Debug)]
+pub struct Place {
+    pub name: &'static str,
+    pub table: Table,
+    pub member: u8,
+}
+
+/// Table K and the filled table.
+pub fn places() -> [Place; 2] {
+    let filled = filled_table();
+    [
+        Place {
+            name: "table K",
+            table: busy_table(),
+            member: 4,
+        },
+        Place {
+            name: "every slot filled",
+            member: last_alive(&filled),
+            table: filled,
+        },
+    ]
+}
+
+/// Table K of document 01 with a few more capabilities, so that each request can be done.
+pub fn busy_table() -> Table {
+    let mut table = Table::k();
+    table.records[5].slots[1] = Capability::new(2, 15);
+    table.records[5].slots[2] = Capability::new(6, WR);
+    table
+}
+
+/// 63 alive objects with every slot filled, half of them active. The number that is left is in the
+/// stock of one of them, so that each request can be done; nobody else names the last object.
+pub fn filled_table() -> Table {
+    let shape = Shape {
+        born: 63,
+        dead_percent: 0,
+        active_percent: 50,
+        stocked_percent: 0,
+        filled_percent: 100,
+        weak_percent: 25,
+    };
+    let mut table = sound_table(&mut Rng::new(7), &shape);
+    let (member, unborn) = (last_alive(&table), numbers_where(&table, |r| !r.is_born()));
+    let first = if table.record(0).is_alive() { 0 } else { 1 };
+    for (n, record) in table.records.iter_mut().enumerate() {
+        for slot in &mut record.slots {
+            if slot.target == member && n != usize::from(member) {
+                slot.target = first;
+            }
+        }
+    }
+    if let Some(maker) = table.records.iter_mut().find(|record| can_act(record)) {
+        maker.stock = set::of(&unborn);
+    }
+    table
+}
+
+/// The highest number that is alive.
+fn last_alive(table: &Table) -> u8 {
+    let alive = numbers_where(table, Record::is_alive);
+    alive.last().copied().unwrap_or(0)
+}
+
+/// 64 objects in a row, each with rd over the next; or, turned about, over the one before.
+pub fn chain_table(turned: bool) -> Table {
+    let mut table = Table::unborn();
+    for (n, record) in table.records.iter_mut().enumerate() {
+        record.status = 1;
+        record.kind = 1;
+        let next = if turned {
+            n.checked_sub(1)
+        } else {
+            Some(n + 1)
+        };
+        if let Some(next) = next.filter(|&next| next < 64) {
+            record.slots[0] = Capability::new(next as u8, RD);
+        }
+    }
+    table
+}
+
+fn can_act(record: &Record) -> bool {
+    record.is_alive() && record.is_active()
+}
+
+/// What a member holds over others, as the bytes of a list.
+pub fn held_list(table: &Table, member: u8) -> Vec<u8> {
+    let held = table.record(member).capabilities();
+    held.filter(|capability| capability.target != member)
+        .flat_map(|capability| [capability.target, capability.rights])
+        .collect()
+}
+
+/// The names of the requests, by code.
+const NAMES: [&str; 8] = [
+    "read", "write", "fetch", "store", "revoke", "send", "allocate", "destroy",
+];
+
+/// Each of the eight requests, done, then one refused by 6 and a nonsense code.
+pub fn requests(table: &Table) -> Vec<(String, Request)> {
+    let done = (1..=8).filter_map(|code| {
+        let name = NAMES[usize::from(code) - 1].to_string();
+        Some((name, find_request(table, code, 0)?))
+    });
+    let refused = find_request(table, 2, 6).map(|request| (String::from("refused write"), request));
+    let nonsense = Request::Unknown { code: 99, actor: 2 };
+    done.chain(refused)
+        .chain([(String::from("nonsense code"), nonsense)])
+        .collect()
+}
+
+/// The first request of the code that gets the reply. All but allocate and destroy get it again on the
+/// table that they leave.
+fn find_request(table: &Table, code: u8, reply: u8) -> Option<Request> {
+    let places = (0..64).flat_map(|actor| (0..8).map(move |t| (actor, t)));
+    let mut candidates = places.map(|(actor, t)| candidate(table, code, actor, t));
+    candidates.find(|request| {
+        let mut after = table.clone();
+        step_in_place(&mut after, request) == reply
+            && (code >= 7 || step_in_place(&mut after, request) == reply)
+    })
+}
+
+fn candidate(table: &Table, code: u8, actor: u8, t: u8) -> Request {
+    let (word, i, j) = (7, 1, 6);
+    let list = vec![(0, 1), (1, 2), (2, 3), (3, 4)];
+    match code {
+        1 => Request::Read { actor, t },
+        2 => Request::Write { actor, t, word },
+        3 => Request::Fetch { actor, t, i, j },
+        4 => Request::Store { actor, t, i, j },
+        5 => Request::Revoke { actor, t, j },
+        6 => Request::Send {
+            actor,
+            t,
+            word,
+            list,
+            reply: 5,
+        },
+        7 => Request::Allocate {
+            actor,
+            n: set::numbers(table.record(actor).stock).next().unwrap_or(0),
+            kind: 1,
+            part: 0,
+            i: t,
+            list,
+        },
+        _ => Request::Destroy { actor, t },
+    }
+}
+
+/// The numbers whose records a request changes.
+pub fn changed_numbers(table: &Table, request: &Request) -> Vec<u8> {
+    let mut after = table.clone();
+    step_in_place(&mut after, request);
+    (0..64)
+        .filter(|&n| after.record(n) != table.record(n))
+        .collect()
+}
+
+/// The table with an offence in its last record, where none but a scan to the end finds it.
+pub fn unsound_at_the_end(table: &Table) -> Table {
+    let mut damaged = table.clone();
+    damaged.records[63].kind = 2;
+    damaged
+}

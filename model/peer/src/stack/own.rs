@@ -1,0 +1,103 @@
+//! One call on a stack of its own, by the calling convention of Linux for x86-64: integers go in rdi, rsi
+//! and rdx, a table by value is pushed, and what is too large for registers goes where rdi points.
+
+use std::arch::asm;
+use std::mem::{size_of, size_of_val};
+
+use captable::raw;
+
+use crate::calls::{Call, Sample};
+use crate::convert::to_raw;
+use crate::differential::number_of;
+
+/// The length of the stack: far more than any call should take.
+const LENGTH: usize = 1 << 20;
+
+/// A place for what a call gives back: the number of an outcome or a relation is after 2,048 bytes.
+const RESULT: usize = 4096;
+const NUMBER_AT: usize = 2048;
+
+/// The bytes of stack that a call takes on the input, or none if it does not answer as the model does.
+/// Two patterns, since a call may write the very bytes of one.
+pub fn measure(call: Call, sample: &Sample) -> Option<usize> {
+    let once = taken(call, sample, 0xA5)?;
+    let again = taken(call, sample, 0x5A)?;
+    Some(once.max(again))
+}
+
+fn taken(call: Call, sample: &Sample, pattern: u8) -> Option<usize> {
+    let (mut table, mut bytes) = (to_raw(&sample.table), sample.bytes.clone());
+    let mut result = vec![0_u64; RESULT / 8];
+    let given = result.as_mut_ptr() as u64;
+    let (start, length) = (bytes.as_mut_ptr() as u64, bytes.len() as u64);
+    let (function, arguments) = match call {
+        Call::Step => (
+            raw::captable_step as *const (),
+            [&raw mut table as u64, start, length],
+        ),
+        Call::Stepped => (raw::captable_stepped as *const (), [given, start, length]),
+        Call::Sound => (raw::captable_sound as *const (), [0; 3]),
+        Call::Access => (raw::captable_access as *const (), [given, 0, 0]),
+        Call::Test => (
+            raw::captable_test as *const (),
+            [sample.members, start, length],
+        ),
+        Call::Read => (raw::captable_read as *const (), [given, start, length]),
+        Call::Write => (raw::captable_write as *const (), [start, length, 0]),
+        Call::Confine => (raw::captable_confine as *const (), [start, length, given]),
+    };
+    let pushed = call.takes_table().then_some(&table);
+    let mut stack = vec![u128::from_ne_bytes([pattern; 16]); LENGTH / 16];
+    // SAFETY: the arguments are those of the call, and what they point to lives until after it.
+    let registers = unsafe { call_on(&mut stack, function, arguments, pushed) };
+    let result: Vec<u8> = result.iter().flat_map(|word| word.to_ne_bytes()).collect();
+    let number = match call {
+        Call::Step | Call::Sound | Call::Write => registers[0] as u8,
+        Call::Test => registers[1] as u8,
+        Call::Stepped | Call::Access | Call::Read => result[NUMBER_AT],
+        Call::Confine => {
+            let count = usize::try_from(registers[0]).map_or(0, |count| count.min(256));
+            number_of(&String::from_utf8_lossy(&result[..count]))
+        }
+    };
+    (number == sample.number).then(|| depth(&stack, pattern))
+}
+
+/// The bytes from the deepest one that is not of the pattern to the top.
+fn depth(stack: &[u128], pattern: u8) -> usize {
+    let mut bytes = stack.iter().flat_map(|words| words.to_ne_bytes());
+    let untouched = bytes.position(|byte| byte != pattern);
+    let all = size_of_val(stack);
+    all - untouched.unwrap_or(all)
+}
+
+/// Makes the call at the top of the stack, and gives back rax and rdx.
+///
+/// # Safety
+/// The function takes these arguments, and the table by value if there is one.
+unsafe fn call_on(
+    stack: &mut [u128],
+    function: *const (),
+    arguments: [u64; 3],
+    pushed: Option<&raw::Table>,
+) -> [u64; 2] {
+    let mut top = stack.as_mut_ptr_range().end.cast::<u8>();
+    if let Some(table) = pushed {
+        top = top.wrapping_sub(size_of::<raw::Table>());
+        top.cast::<raw::Table>().write(*table);
+    }
+    let (first, second);
+    asm!(
+        "xchg rsp, r12",
+        "call r13",
+        "mov rsp, r12",
+        inout("r12") top => _,
+        in("r13") function,
+        in("rdi") arguments[0],
+        in("rsi") arguments[1],
+        inlateout("rdx") arguments[2] => second,
+        lateout("rax") first,
+        clobber_abi("C"),
+    );
+    [first, second]
+}

@@ -1,0 +1,33 @@
+//! What is printed for a command line that is not understood, and for `help`.
+
+/// The commands, for the technician.
+pub const USAGE: &str = "\
+Holds the proved archive libcaptable.a to the reference model.
+
+usage: yavrinks-peer COMMAND
+
+  differential [SEED [REQUESTS [INPUTS]]]
+      Puts the same questions to the archive and to the model and compares every answer: REQUESTS
+      requests in both forms of the step, with the other calls at times, then INPUTS images and as
+      many inputs of the program confine. Prints how often each number was answered. At the first
+      difference it prints the case and both answers. The same SEED asks the same on every machine.
+      Without numbers: seed 1, 10000000 requests, 1000000 inputs.
+
+  bench
+      Times each call of the archive and of the model in turn, on table K and on a table with every
+      slot filled, and the step on a lent table against one soundness scan in C. Run it on a machine
+      that does nothing else.
+
+  stack
+      Measures how many bytes of stack each call of the archive takes (x86-64 alone).
+
+  instructions
+      Counts the instructions of each call of the archive, best and worst of several inputs. Needs
+      the program valgrind.
+
+  help
+      Prints this text.
+
+Exit status: 0 if all is well, 1 for a difference or a measurement that could not be made, 2 for a
+command line that is not understood.
+";

@@ -1,0 +1,37 @@
+//! A table to the archive's form and back.
+
+use yavrinks_model::generate::{any_sound_table, damaged_table, Damage};
+use yavrinks_model::image;
+use yavrinks_model::rng::Rng;
+use yavrinks_model::table::Table;
+use yavrinks_peer::archive::{Archive, Calls};
+use yavrinks_peer::convert::{to_model, to_raw};
+
+#[test]
+fn there_and_back_is_the_same_table() {
+    let mut rng = Rng::new(1);
+    for _ in 0..200 {
+        let table = any_sound_table(&mut rng);
+        assert_eq!(to_model(&to_raw(&table)), table);
+    }
+    for kind in Damage::ALL {
+        let table = damaged_table(&mut rng, kind);
+        assert_eq!(to_model(&to_raw(&table)), table);
+    }
+}
+
+#[test]
+fn every_field_of_table_k_has_its_place() {
+    let raw = to_raw(&Table::k());
+    assert_eq!((raw.records[5].status, raw.records[5].kind), (1, 1));
+    assert_eq!(raw.records[5].stock, 1 << 10 | 1 << 11);
+    let slot = raw.slots[2 * 8 + 1];
+    assert_eq!((slot.target, slot.rights), (6, 4));
+}
+
+#[test]
+fn the_archive_writes_the_image_that_the_model_writes() {
+    let mut buffer = [0; image::IMAGE_LENGTH];
+    assert_eq!(Archive.write(&mut to_raw(&Table::k()), &mut buffer), 0);
+    assert_eq!(buffer.to_vec(), image::encode(&Table::k()));
+}

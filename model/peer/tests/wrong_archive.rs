@@ -1,0 +1,138 @@
+//! An archive with one thing wrong is found out by the comparison, and the linked one is not.
+
+use captable::raw;
+use yavrinks_peer::archive::{Archive, Calls};
+use yavrinks_peer::differential::{compare_inputs, compare_requests, Counts, Difference};
+
+/// Enough to meet every call and every number.
+const REQUESTS: u64 = 20_000;
+const INPUTS: u64 = 500;
+
+/// The first difference of an archive, if there is one.
+fn first_difference(calls: &impl Calls) -> Option<Box<Difference>> {
+    let mut counts = Counts::default();
+    let compared = compare_requests(calls, 1, REQUESTS, &mut counts)
+        .and_then(|()| compare_inputs(calls, 1, INPUTS, &mut counts));
+    compared.err().map(|found| found.difference)
+}
+
+/// Is the difference found in this call, and in this part of its answer alone?
+fn is_found(calls: &impl Calls, call: &str, part: &str) {
+    let difference = first_difference(calls).expect("the wrong archive is found out");
+    let told = difference.to_string();
+    let first = told.lines().next();
+    let expected = format!("{call} differs from the model in: {part}");
+    assert_eq!(first, Some(expected.as_str()), "{told}");
+}
+
+#[test]
+fn the_linked_archive_has_no_difference() {
+    assert!(first_difference(&Archive).is_none());
+}
+
+/// Answers 7 for 8.
+struct WrongNumber;
+
+impl Calls for WrongNumber {
+    fn step(&self, table: &mut raw::Table, request: &mut [u8]) -> u8 {
+        match Archive.step(table, request) {
+            8 => 7,
+            number => number,
+        }
+    }
+}
+
+#[test]
+fn a_wrong_number_is_found() {
+    is_found(&WrongNumber, "captable_step", "number");
+}
+
+/// Changes the word of the last record when it refuses by 9.
+struct TouchedTable;
+
+impl Calls for TouchedTable {
+    fn stepped(&self, table: &mut raw::Table, request: &mut [u8]) -> raw::Outcome {
+        let mut outcome = Archive.stepped(table, request);
+        if outcome.number == 9 {
+            outcome.table.records[63].word ^= 0x5A5A;
+        }
+        outcome
+    }
+}
+
+#[test]
+fn a_table_changed_on_a_refusal_is_found() {
+    is_found(&TouchedTable, "captable_stepped", "table given back");
+}
+
+/// Writes one byte after the image.
+struct TouchedBuffer;
+
+impl Calls for TouchedBuffer {
+    fn write(&self, table: &mut raw::Table, buffer: &mut [u8]) -> u8 {
+        let number = Archive.write(table, buffer);
+        if let Some(after) = buffer.get_mut(1923) {
+            *after ^= 1;
+        }
+        number
+    }
+}
+
+#[test]
+fn a_byte_after_the_image_that_changes_is_found() {
+    is_found(&TouchedBuffer, "captable_write", "buffer");
+}
+
+/// Writes into the request that it may only read.
+struct TouchedRequest;
+
+impl Calls for TouchedRequest {
+    fn step(&self, table: &mut raw::Table, request: &mut [u8]) -> u8 {
+        let number = Archive.step(table, request);
+        if let (4, Some(last)) = (number, request.last_mut()) {
+            *last ^= 128;
+        }
+        number
+    }
+}
+
+#[test]
+fn a_request_that_changes_is_found() {
+    is_found(&TouchedRequest, "captable_step", "request");
+}
+
+/// Leaves a byte of the buffer after the text changed.
+struct LongText;
+
+impl Calls for LongText {
+    fn confine(&self, input: &mut [u8], out: &mut [u8; 256]) -> usize {
+        let count = Archive.confine(input, out);
+        out[count] = out[count].wrapping_add(1);
+        count
+    }
+}
+
+#[test]
+fn a_byte_after_the_text_that_changes_is_found() {
+    is_found(&LongText, "captable_confine", "buffer");
+}
+
+/// Calls a slot with a target and no rights empty.
+struct LaxScan;
+
+impl Calls for LaxScan {
+    fn scan(&self, table: &raw::Table) -> u8 {
+        let mut lax = *table;
+        for slot in &mut lax.slots {
+            if slot.rights == 0 {
+                slot.target = 0;
+            }
+        }
+        Archive.scan(&lax)
+    }
+}
+
+#[test]
+fn a_scan_that_overlooks_a_clause_is_found() {
+    is_found(&LaxScan, "the scan in C", "number");
+}
