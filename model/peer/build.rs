@@ -6,6 +6,7 @@ use std::process::{exit, Command};
 
 fn main() {
     println!("cargo:rerun-if-changed=scan.c");
+    println!("cargo:rerun-if-changed=../../include/captable.h");
     let out = PathBuf::from(env::var("OUT_DIR").expect("cargo sets the folder for what is built"));
     let object = out.join("scan.o");
     let archive = out.join("libpeerscan.a");

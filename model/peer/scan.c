@@ -1,48 +1,28 @@
 /* The soundness of a table, clause by clause from document 01, as one would write it in C. It ends at
-   the first offence. The structs are laid out as libcaptable.a has them. */
+   the first offence. */
 
-#include <stdint.h>
+#include "../../include/captable.h"
 
-struct capability {
-    uint8_t target;
-    uint8_t rights;
-};
-
-struct record {
-    uint8_t status;
-    uint8_t kind;
-    uint32_t word;
-    uint64_t stock;
-};
-
-/* Slot j of object n is at n * 8 + j. */
-struct table {
-    struct record records[64];
-    struct capability slots[512];
-};
-
-enum { UNBORN = 0, ALIVE = 1, DEAD = 2 };
-
-static int born(const struct table *table, uint8_t n) {
-    return n < 64 && (table->records[n].status == ALIVE || table->records[n].status == DEAD);
+static int born(const captable_table *table, uint8_t n) {
+    return n < 64 && (table->records[n].status == CAPTABLE_ALIVE || table->records[n].status == CAPTABLE_DEAD);
 }
 
 /* The record without its slots and without regard to other records. */
-static int record_sound(const struct record *record) {
-    if (record->status > DEAD || record->kind > 1)
+static int record_sound(const captable_record *record) {
+    if (record->status > CAPTABLE_DEAD || record->kind > 1)
         return 0;
-    if (record->status == UNBORN && record->kind != 0)
+    if (record->status == CAPTABLE_UNBORN && record->kind != 0)
         return 0;
-    return record->status == ALIVE || (record->word == 0 && record->stock == 0);
+    return record->status == CAPTABLE_ALIVE || (record->word == 0 && record->stock == 0);
 }
 
 /* A filled slot stands in an alive record, names a born target and has rights 1 to 15. */
-static int slots_sound(const struct table *table, int n) {
+static int slots_sound(const captable_table *table, int n) {
     for (int j = 0; j < 8; j++) {
-        const struct capability *slot = &table->slots[n * 8 + j];
+        const captable_capability *slot = &table->slots[n * 8 + j];
         if (slot->target == 0 && slot->rights == 0)
             continue;
-        if (table->records[n].status != ALIVE || slot->rights < 1 || slot->rights > 15 ||
+        if (table->records[n].status != CAPTABLE_ALIVE || slot->rights < 1 || slot->rights > 15 ||
             !born(table, slot->target))
             return 0;
     }
@@ -50,13 +30,13 @@ static int slots_sound(const struct table *table, int n) {
 }
 
 /* 0 for a sound table, 1 for any other. */
-uint8_t peer_scan(const struct table *table) {
+uint8_t peer_scan(const captable_table *table) {
     uint64_t unborn = 0, stocked = 0;
     for (int n = 0; n < 64; n++)
-        if (table->records[n].status == UNBORN)
+        if (table->records[n].status == CAPTABLE_UNBORN)
             unborn |= UINT64_C(1) << n;
     for (int n = 0; n < 64; n++) {
-        const struct record *record = &table->records[n];
+        const captable_record *record = &table->records[n];
         if (!record_sound(record))
             return 1;
         if ((record->stock & stocked) != 0 || (record->stock & ~unborn) != 0)

@@ -8,7 +8,7 @@ use crate::step::{Pair, Request, MAX_PAIRS};
 /// The request that bytes are. Those that are none make a request without fields, which is refused.
 pub fn decode(bytes: &[u8]) -> Request {
     let byte = |k: usize| bytes.get(k).copied().unwrap_or(0);
-    request(bytes).unwrap_or(Request::Unknown {
+    request_in(bytes).unwrap_or(Request::Unknown {
         code: byte(0),
         actor: byte(1),
     })
@@ -97,7 +97,7 @@ impl Rest<'_> {
 }
 
 /// The request, if the bytes are one, no fewer and no more.
-fn request(bytes: &[u8]) -> Option<Request> {
+pub fn request_in(bytes: &[u8]) -> Option<Request> {
     let mut rest = Rest(bytes);
     let (code, actor) = (rest.byte()?, rest.byte()?);
     let found = fields(code, actor, &mut rest)?;

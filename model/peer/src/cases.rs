@@ -9,11 +9,11 @@ use yavrinks_model::image::{self, IMAGE_LENGTH};
 use yavrinks_model::set;
 use yavrinks_model::step::step;
 use yavrinks_model::table::Table;
+use yavrinks_model::wire::encode;
 
 use crate::calls::{Call, Sample};
 use crate::differential::number_of;
 use crate::samples::{chain_table, held_list, places, requests, unsound_at_the_end, Place};
-use crate::wire::bytes_of;
 
 /// The inputs of a call.
 pub fn samples(call: Call) -> Vec<Sample> {
@@ -39,7 +39,7 @@ fn steps(place: &Place) -> Vec<Sample> {
         number: step(table, &request).0,
         table: table.clone(),
         members: 0,
-        bytes: bytes_of(&request),
+        bytes: encode(&request),
     };
     let unsound = first.map(|(_, request)| of(&unsound, "unsound table", request));
     let asked = asked.into_iter();

@@ -11,4 +11,3 @@ pub mod instructions;
 pub mod samples;
 pub mod stack;
 pub mod usage;
-pub mod wire;

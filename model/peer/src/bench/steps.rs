@@ -5,16 +5,16 @@ use std::hint::black_box;
 use captable::raw;
 use yavrinks_model::step::{step, step_in_place, Request};
 use yavrinks_model::table::{Table, SLOTS};
+use yavrinks_model::wire::encode;
 
 use super::measure::{in_turn, Figures};
 use crate::archive::{Archive, Calls};
 use crate::convert::to_raw;
 use crate::samples::changed_numbers;
-use crate::wire::bytes_of;
 
 /// Table in, table out.
 pub fn by_value(table: &Table, request: &Request) -> Figures {
-    let (mut given, mut bytes) = (to_raw(table), bytes_of(request));
+    let (mut given, mut bytes) = (to_raw(table), encode(request));
     in_turn(
         || {
             let outcome = Archive.stepped(black_box(&mut given), black_box(&mut bytes));
@@ -71,7 +71,7 @@ impl Lent {
         Lent {
             table: to_raw(table),
             start: to_raw(table),
-            bytes: bytes_of(request),
+            bytes: encode(request),
             back: if again {
                 Vec::new()
             } else {

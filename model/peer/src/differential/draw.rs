@@ -4,10 +4,10 @@ use yavrinks_model::generate::{any_request, bounded_fields};
 use yavrinks_model::rng::Rng;
 use yavrinks_model::step::Request;
 use yavrinks_model::table::Table;
+use yavrinks_model::wire::{encode, request_in};
 
 use super::aim::{aimed, in_range, pair};
 use super::steps::Ask;
-use crate::wire::{bytes_of, request_of};
 
 /// The next bytes for the table as it is.
 pub fn draw(rng: &mut Rng, table: &Table) -> Ask {
@@ -27,7 +27,7 @@ pub fn draw(rng: &mut Rng, table: &Table) -> Ask {
 /// A request with its bytes.
 fn ask(request: Request) -> Ask {
     Ask {
-        bytes: bytes_of(&request).into_boxed_slice(),
+        bytes: encode(&request).into_boxed_slice(),
         request: Some(request),
     }
 }
@@ -84,7 +84,7 @@ fn long_list(rng: &mut Rng, table: &Table) -> Request {
 
 /// A request without its last bytes: most often one, up to all of them.
 fn cut_short(rng: &mut Rng, table: &Table) -> Ask {
-    let mut bytes = bytes_of(&aimed(rng, table));
+    let mut bytes = encode(&aimed(rng, table));
     let kept = if rng.percent(60) {
         bytes.len() - 1
     } else {
@@ -96,7 +96,7 @@ fn cut_short(rng: &mut Rng, table: &Table) -> Ask {
 
 /// A request with bytes after it.
 fn too_long(rng: &mut Rng, table: &Table) -> Ask {
-    let mut bytes = bytes_of(&aimed(rng, table));
+    let mut bytes = encode(&aimed(rng, table));
     let more = if rng.percent(60) {
         1
     } else {
@@ -111,7 +111,7 @@ fn too_long(rng: &mut Rng, table: &Table) -> Ask {
 fn wrong_count(rng: &mut Rng, table: &Table) -> Ask {
     let code = rng.byte(6, 7);
     let actor = aimed(rng, table).actor();
-    let mut bytes = bytes_of(&in_range(rng, code, actor, 0));
+    let mut bytes = encode(&in_range(rng, code, actor, 0));
     let place = if code == 6 { 7 } else { 13 };
     let count = bytes[place];
     while bytes[place] == count {
@@ -134,7 +134,7 @@ fn random_bytes(rng: &mut Rng) -> Ask {
         }
     }
     Ask {
-        request: request_of(&bytes),
+        request: request_in(&bytes),
         bytes: bytes.into_boxed_slice(),
     }
 }
