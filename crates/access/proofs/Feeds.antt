@@ -12,9 +12,10 @@ use lib.ListN.{length, getD, set, length-set}
 use borrow.Author.Tests.{ltb-true, ltb-false, eq-eqb, ne-eqb}
 use Rattle.mask.specs.Sets.{has}
 use Rattle.mask.proofs.Tests.{byCases, byEq, or-none}
+use Rattle.mask.proofs.Bits.{has-zero}
 use Rattle.mask.proofs.Words.{has-or}
 use Rattle.access.specs.Relation.{Right, rd, wr, wk, tx, bitAt}
-use Rattle.access.specs.Words.{place, wordAt, Feed, feed, feedAll, shares, viaRead, viaWeak, viaPush, rules, passOf, Still, Full}
+use Rattle.access.specs.Words.{place, wordAt, Feed, feed, feedAll, shares, viaRead, viaWeak, viaPush, rules, heldOver, rowPass, passOf, Still, Full}
 
 or-high : (a b : ℕ) → a ≤ bitOr a b
 or-high a b = omega (arith, or-add-and a b, and-le-r a b)
@@ -67,8 +68,7 @@ rules-shut r x y p q u v =
     ) refl
 
 -- the same by the union of x's four words
-pub rules-none : (r : List ℕ) (x y : ℕ) → has y (bitOr (bitOr (bitOr (getD r x 0) (getD r (64 + x) 0)) (getD r (128 + x) 0)) (getD r (192 + x) 0)) ≡ false
-    → r ≡ feedAll r (rules x y)
+pub rules-none : (r : List ℕ) (x y : ℕ) → has y (heldOver r x) ≡ false → r ≡ feedAll r (rules x y)
 rules-none r x y e =
     let w : ℕ → Bool = λ i. has y (getD r i 0) in
     let p = or-none _ (w (192 + x)) (sym (has-or y _ _) ∙ e) in
@@ -81,9 +81,38 @@ pub pass-none : (r : List ℕ) → r ≡ passOf r 0
 unfolding passOf
 pass-none r = refl
 
-pub pass-step : (r s t : List ℕ) (k : ℕ) → s ≡ passOf r k → t ≡ feedAll s (rules (k / 64) (k % 64)) → t ≡ passOf r (k + 1)
-unfolding passOf
-pass-step r s t k p q = rw add-one (q ∙ ap (λ (w : List ℕ). feedAll w (rules (k / 64) (k % 64))) p)
+-- a holder's row -------------------------------------------------------------------
+pub row-none : (r : List ℕ) (x : ℕ) → r ≡ rowPass r x 0
+unfolding rowPass
+row-none r x = refl
+
+pub row-step : (r s t : List ℕ) (x k : ℕ) → s ≡ rowPass r x k → t ≡ feedAll s (rules x k) → t ≡ rowPass r x (k + 1)
+unfolding rowPass
+row-step r s t x k p q = rw add-one (q ∙ ap (λ (w : List ℕ). feedAll w (rules x k)) p)
+
+-- with no right at all every pair of the row is shut
+pub row-shut : (r : List ℕ) (x k : ℕ) → heldOver r x ≡ 0 → r ≡ rowPass r x k
+unfolding rowPass
+row-shut r x zero e = refl
+row-shut r x (suc k) e = rules-none r x k (ap (has k) e ∙ has-zero k) ∙ ap (λ (w : List ℕ). feedAll w (rules x k)) (row-shut r x k e)
+
+-- the first k pairs of x follow the rows before it
+row-pass : (r : List ℕ) (x k : ℕ) → k ≤ 64 → rowPass (passOf r (x * 64)) x k ≡ passOf r (x * 64 + k)
+unfolding rowPass passOf
+row-pass r x zero h = let e : x * 64 ≡ x * 64 + 0 = omega arith in ap (passOf r) e
+row-pass r x (suc k) h =
+    let m : ℕ = x * 64 + k in
+    let next : suc m ≡ x * 64 + suc k = omega arith in
+    let at : (x ≡ m / 64) × (k ≡ m % 64) = (omega arith, omega arith) in
+    ap (λ (w : List ℕ). feedAll w (rules x k)) (row-pass r x k (omega arith))
+    ∙ ap (λ (i : ℕ). feedAll (passOf r m) (rules i k)) (at .0)
+    ∙ ap (λ (j : ℕ). feedAll (passOf r m) (rules (m / 64) j)) (at .1)
+    ∙ ap (passOf r) next
+
+pub pass-row : (r s t : List ℕ) (x : ℕ) → s ≡ passOf r (x * 64) → t ≡ rowPass s x 64 → t ≡ passOf r ((x + 1) * 64)
+pass-row r s t x p q =
+    let e : x * 64 + 64 ≡ (x + 1) * 64 = omega arith in
+    q ∙ ap (λ (w : List ℕ). rowPass w x 64) p ∙ row-pass r x 64 (omega arith) ∙ ap (passOf r) e
 
 -- growth, by the sum of the words -----------------------------------------------------------
 unfoldable pub total : List ℕ → ℕ

@@ -68,6 +68,15 @@ rules x y =
     ∷ viaPush tx rd x y ∷ viaPush tx wr x y ∷ viaPush tx wk x y ∷ viaPush tx tx x y
     ∷ []
 
+-- the numbers over which x has some right
+abbrev pub heldOver : List ℕ → ℕ → ℕ
+heldOver r x = bitOr (bitOr (bitOr (getD r x 0) (getD r (64 + x) 0)) (getD r (128 + x) 0)) (getD r (192 + x) 0)
+
+-- the rules at the first k pairs of the holder x
+unfoldable pub rowPass : List ℕ → ℕ → ℕ → List ℕ
+rowPass r x zero = r
+rowPass r x (suc k) = feedAll (rowPass r x k) (rules x k)
+
 -- the rules at the first k pairs
 unfoldable pub passOf : List ℕ → ℕ → List ℕ
 passOf r zero = r

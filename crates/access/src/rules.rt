@@ -4,7 +4,7 @@ ghost use mathlib.Core.Path.{_≡_};
 ghost use mathlib.Core.Bool.{true, false};
 ghost use Prim.Native.Nat.{_+_, _*_, _<_};
 ghost use lib.ListN.{length};
-ghost use Rattle.access.specs.Words.{Full, feed, feedAll, shares, rules, passOf, Saturated};
+ghost use Rattle.access.specs.Words.{Full, feed, feedAll, shares, rules, heldOver, rowPass, passOf, Saturated};
 
 // Where x has the right g over y, word (s, v) is joined into word (d, u).
 fn join_word(
@@ -48,14 +48,37 @@ fn apply_rules(r: &mut [u64; 256], x: usize, y: usize)
     share(r, 3, x, y, y, x);
 }
 
+// The numbers over which x has some right.
+fn held_over(r: &[u64; 256], x: usize) -> u64
+    requires { ⌜ x < 64 ⌝ }
+    ensures { λ m. ⌜ m ≡ heldOver (now (r .entry)) x ⌝ }
+{
+    r[x] | r[64 + x] | r[128 + x] | r[192 + x]
+}
+
 // The same, where x has some right over y: at any other pair every rule is shut.
 fn visit(r: &mut [u64; 256], x: usize, y: usize)
     requires { ⌜ (x < 64) × (y < 64) ⌝ }
     ensures { λ z. ⌜ now (r .exit) ≡ feedAll (now (r .entry)) (rules x y) ⌝ }
 {
-    let any = r[x] | r[64 + x] | r[128 + x] | r[192 + x];
-    if (any >> y) & 1 == 1 {
+    let over = held_over(r, x);
+    if (over >> y) & 1 == 1 {
         apply_rules(r, x, y);
+    }
+}
+
+// The rules at every pair of the holder x. One with no right at all is passed over whole: each of its pairs is shut.
+fn visit_row(r: &mut [u64; 256], x: usize)
+    requires { ⌜ x < 64 ⌝ }
+    ensures { λ z. ⌜ now (r .exit) ≡ rowPass (now (r .entry)) x 64 ⌝ }
+{
+    let over = held_over(r, x);
+    if over != 0 {
+        let mut y: usize = 0;
+        while y < 64 {
+            visit(r, x, y);
+            y = y + 1;
+        }
     }
 }
 
@@ -63,10 +86,10 @@ fn visit(r: &mut [u64; 256], x: usize, y: usize)
 fn pass(r: &mut [u64; 256])
     ensures { λ z. ⌜ now (r .exit) ≡ passOf (now (r .entry)) 4096 ⌝ }
 {
-    let mut k: usize = 0;
-    while k < 4096 {
-        visit(r, k / 64, k % 64);
-        k = k + 1;
+    let mut x: usize = 0;
+    while x < 64 {
+        visit_row(r, x);
+        x = x + 1;
     }
 }
 

@@ -1,10 +1,11 @@
 -- The loops that read a table: what has been read when n records and k slots are in place. Both stand in number order, so each
 -- store is the next of its list. Assumes nothing.
 use mathlib.Core.Path.{_≡_, refl, sym, _∙_, ap, ap₂}
-use mathlib.Core.List.{List}
-use Prim.Native.Nat.{ℕ, _+_, _-_, _*_, _/_, _%_, _^_, _<_}
+use mathlib.Core.List.{List, _++_}
+use Prim.Native.Nat.{ℕ, _+_, _-_, _*_, _/_, _%_, _^_, _≤_, _<_}
 use native.Mathlib.Omega.{arith}
 use lib.ListN.{length, getD, take, drop, length-set, length-take, length-drop}
+use lib.Seq.{take-add, drop-drop}
 use Rattle.table.specs.declared.Capability.{Capability}
 use Rattle.table.specs.declared.Record.{Record}
 use Rattle.table.specs.declared.Table.{Table}
@@ -13,7 +14,7 @@ use Rattle.table.specs.Lists.{tabulate}
 use Rattle.image.specs.declared.Stored.{Stored}
 use Rattle.image.specs.Numbers.{numberOf}
 use Rattle.image.specs.Layout.{byteAt, partOf, recordFrom, slotFrom, storedFrom, tableFrom}
-use Rattle.image.proofs.Numbers.{Bytes, number-lt}
+use Rattle.image.proofs.Numbers.{Bytes, number-from, number-append, number-lt}
 use Rattle.image.proofs.Places.{bytes-take, bytes-drop}
 use Rattle.table.proofs.Lists.{getD-tabulate}
 use Rattle.image.proofs.Lists.{filled-none, filled-more, filled-all}
@@ -28,17 +29,28 @@ recordOf bytes n = recordFrom (partOf bytes n)
 abbrev pub slotOf : List ℕ → ℕ → Capability
 slotOf bytes k = slotFrom (partOf bytes (k / 8)) (k % 8)
 
--- what the record reader puts together
-pub word-fits : (part : List ℕ) → length part ≡ 30 → Bytes part → numberOf (take 4 (drop 2 part)) < 2 ^ 32
-word-fits part l b =
-    let e : length (take 4 (drop 2 part)) ≡ 4 = simp (length-take, length-drop) (omega arith) in
-    rw e at (number-lt (take 4 (drop 2 part)) (bytes-take 4 (drop 2 part) (bytes-drop 2 part b)))
+-- what the record reader puts together: four bytes at a time, of which the stock has twice as many
+abbrev pub fourAt : List ℕ → ℕ → ℕ
+fourAt part k = numberOf (take 4 (drop k part))
 
-pub stored-made : (part : List ℕ) (w k : ℕ) (slots : List Capability)
-    → w ≡ numberOf (take 4 (drop 2 part)) → k ≡ numberOf (take 8 (drop 6 part)) → slots ≡ tabulate 8 (slotFrom part)
-    → record { object = record { status = byteAt part 0; kind = byteAt part 1; word = w; stock = k }; slots = slots } ≡ storedFrom part
+length-four : (part : List ℕ) (k : ℕ) → k + 4 ≤ length part → length (take 4 (drop k part)) ≡ 4
+length-four part k l = simp (length-take, length-drop) (omega arith)
+
+pub four-fits : (part : List ℕ) (k : ℕ) → k + 4 ≤ length part → Bytes part → fourAt part k < 2 ^ 32
+four-fits part k l b = rw (length-four part k l) at (number-lt (take 4 (drop k part)) (bytes-take 4 (drop k part) (bytes-drop k part b)))
+
+-- eight bytes as two halves
+eight-halves : (part : List ℕ) → length part ≡ 30 → fourAt part 6 * 4294967296 + fourAt part 10 ≡ numberOf (take 8 (drop 6 part))
+eight-halves part l =
+    let low = take 4 (drop 10 part) in
+    sym (ap numberOf (take-add 4 4 (drop 6 part)) ∙ ap (λ (r : List ℕ). numberOf (take 4 (drop 6 part) ++ take 4 r)) (drop-drop 4 6 part)
+    ∙ number-append 0 (take 4 (drop 6 part)) low ∙ number-from (fourAt part 6) low ∙ ap (λ (k : ℕ). fourAt part 6 * 256 ^ k + fourAt part 10) (length-four part 10 (omega arith)))
+
+pub stored-made : (part : List ℕ) (w h k : ℕ) (slots : List Capability) → length part ≡ 30
+    → w ≡ fourAt part 2 → h ≡ fourAt part 6 → k ≡ fourAt part 10 → slots ≡ tabulate 8 (slotFrom part)
+    → record { object = record { status = byteAt part 0; kind = byteAt part 1; word = w; stock = h * 4294967296 + k }; slots = slots } ≡ storedFrom part
 unfolding storedFrom recordFrom
-stored-made part w k slots e f g = rw (e, f, g) refl
+stored-made part w h k slots l e f g s = rw (e, f, g, s, eight-halves part l) refl
 
 -- what the record reader is lent is the record's part
 pub stored-lent : (bytes : List ℕ) (n : ℕ) (s : Stored) → s ≡ storedFrom (take (3 + 30 * n + 30 - (3 + 30 * n)) (drop (3 + 30 * n) bytes)) → s ≡ storedFrom (partOf bytes n)

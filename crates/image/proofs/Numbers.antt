@@ -42,6 +42,12 @@ number-lt (b ∷ bs) h =
     rw (number-from (0 * 256 + b) bs, pow-succ' 256 (length bs))
     (digits-lt {q = 0 * 256 + b} {m = 256} (omega (arith, h 0)) (number-lt bs (λ i. h (suc i))))
 
+-- bytes that are read in two goes
+pub number-append : (before : ℕ) (xs ys : List ℕ) → numberFrom before (xs ++ ys) ≡ numberFrom (numberFrom before xs) ys
+unfolding numberFrom
+number-append before [] ys = refl
+number-append before (x ∷ xs) ys = number-append (before * 256 + x) xs ys
+
 -- reading what was written
 pub number-bytes : (before size n : ℕ) → numberFrom before (bytesOf size n) ≡ before * 256 ^ size + n % 256 ^ size
 unfolding bytesOf numberFrom

@@ -9,7 +9,8 @@ use lib.Seq.{length-take-le, drop-drop, sets-eq}
 use borrow.Rule.Slice.PartMut.{putMid}
 use Rattle.table.specs.declared.Capability.{Capability}
 use Rattle.table.specs.declared.Table.{Table}
-use Rattle.table.specs.Cells.{emptySlot}
+use Rattle.table.specs.Lists.{tabulate}
+use Rattle.table.specs.Cells.{recordAt, slotAt, emptySlot}
 use Rattle.image.specs.declared.Stored.{Stored}
 use Rattle.image.specs.Numbers.{bytesOf}
 use Rattle.image.specs.Layout.{imageLength, head, storedAt, slotsBytes, storedBytes, recordsBytes, imageOf}
@@ -39,6 +40,17 @@ stored-left part s x y z m k l em ex ek ey ez =
     let three = lent-next ((p ++ x) ++ y) part _ z 14 16 (omega (arith, length-append p x, length-append (p ++ x) y)) two in
     three ∙ ap (λ (r : List ℕ). (((p ++ x) ++ y) ++ z) ++ r) (drop-of-length-le part {i = 30} (omega arith)) ∙ append-nil _
     ∙ append-assoc (p ++ x) y z ∙ append-assoc p x (y ++ z) ∙ beside {a = p} refl (beside fx (beside fy ez))
+
+-- object n with its eight slots, taken out of the table one by one
+abbrev pub takenAt : Table → ℕ → ℕ → Stored
+takenAt t n k = record {
+  object = recordAt t n;
+  slots = getD (t .slots) k emptySlot ∷ slotAt t n 1 ∷ slotAt t n 2 ∷ slotAt t n 3 ∷ slotAt t n 4 ∷ slotAt t n 5 ∷ slotAt t n 6 ∷ slotAt t n 7 ∷ [];
+}
+
+pub stored-taken : (t : Table) (n : ℕ) → takenAt t n (n * 8) ≡ storedAt t n
+unfolding storedAt tabulate
+stored-taken t n = let z : n * 8 ≡ n * 8 + 0 = omega arith in ap (takenAt t n) z
 
 -- the loop that writes records: behind the first three bytes stand n of them, and the rest is as it was
 abbrev pub writtenTo : Table → List ℕ → ℕ → List ℕ

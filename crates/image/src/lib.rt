@@ -8,7 +8,7 @@ ghost use Prim.Native.Nat.{_<_, _≤_};
 ghost use lib.ListN.{length, take, drop};
 ghost use Rattle.table.specs.Lists.{tabulate};
 ghost use Rattle.image.specs.Numbers.{bytesOf, numberOf};
-ghost use Rattle.image.specs.Layout.{imageLength, storedAt, slotsBytes, storedBytes, recordsBytes, slotFrom, storedFrom, tableFrom};
+ghost use Rattle.image.specs.Layout.{imageLength, slotsBytes, storedBytes, recordsBytes, slotFrom, storedFrom, tableFrom};
 ghost use Rattle.image.specs.Images.{refusedRead, readOf, writeRefusal, writtenOf};
 
 // Every image begins with these: length 1,923, version 1.
@@ -96,19 +96,20 @@ fn read_slots(part: &[u8]) -> [Capability; 8]
     slots
 }
 
-// The record reader: a record from its own part of the image.
+// The record reader: a record from its own part of the image. Numbers are read by four bytes, the stock in two halves.
 fn read_record(part: &[u8]) -> Stored
     requires { ⌜ length (now part) ≡ 30 ⌝ }
     ensures { λ r. ⌜ r ≡ storedFrom (now (part .entry)) ⌝ }
 {
     let word = number_of(&part[2..6]) as u32;
-    let stock = number_of(&part[6..14]);
+    let high = number_of(&part[6..10]);
+    let low = number_of(&part[10..14]);
     let slots = read_slots(part);
     let object = Record {
         status: part[0],
         kind: part[1],
         word: word,
-        stock: stock,
+        stock: high * 4294967296 + low,
     };
     Stored {
         object: object,
@@ -173,28 +174,6 @@ pub fn read(image: &[u8]) -> Loaded
     }
 }
 
-// Object n with its eight slots.
-fn stored_at(t: Table, n: usize) -> Stored
-    requires { ⌜ n < 64 ⌝ }
-    ensures { λ r. ⌜ r ≡ storedAt t n ⌝ }
-{
-    let nothing = Capability {
-        target: 0,
-        rights: 0,
-    };
-    let mut slots = [nothing; 8];
-    let mut j: usize = 0;
-    while j < 8 {
-        slots[j] = t.slots[n * 8 + j];
-        j = j + 1;
-    }
-    let object = t.records[n];
-    Stored {
-        object: object,
-        slots: slots,
-    }
-}
-
 // Fills sixteen bytes with eight slots.
 fn write_slots(bytes: &mut [u8], slots: [Capability; 8])
     requires { ⌜ length (now bytes) ≡ 16 ⌝ }
@@ -231,7 +210,22 @@ fn write_records(buffer: &mut [u8], t: Table)
     let mut n: usize = 0;
     while n < 64 {
         let place = 3 + 30 * n;
-        let stored = stored_at(t, n);
+        let object = t.records[n];
+        let at = n * 8;
+        let slots = [
+            t.slots[at],
+            t.slots[at + 1],
+            t.slots[at + 2],
+            t.slots[at + 3],
+            t.slots[at + 4],
+            t.slots[at + 5],
+            t.slots[at + 6],
+            t.slots[at + 7],
+        ];
+        let stored = Stored {
+            object: object,
+            slots: slots,
+        };
         write_record(&mut buffer[place..place + 30], stored);
         n = n + 1;
     }

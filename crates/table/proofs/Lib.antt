@@ -2,5 +2,6 @@ pub mod Lists
 pub mod Cells
 pub mod Facts
 pub mod Scan
+pub mod Glances
 pub mod Value
 pub mod Unborn

@@ -28,7 +28,7 @@ pub born-all : (t : Table) (n : ℕ) → 64 ≤ n → upTo n (bornAt t) ≡ born
 unfolding bornSet
 born-all t n h = up-all (bornAt t) n h
 
-has-born : (t : Table) (x : ℕ) → length (t .records) ≡ 64 → has x (bornSet t) ≡ bornAt t x
+pub has-born : (t : Table) (x : ℕ) → length (t .records) ≡ 64 → has x (bornSet t) ≡ bornAt t x
 unfolding bornSet
 has-born t x long = byCases (ltb x 64)
     (λ e. has-bits 64 x (bornAt t) (ltb-true x 64 e))

@@ -3,6 +3,7 @@ ghost use mathlib.Core.Path.{_≡_};
 ghost use mathlib.Core.Bool.{_&&_};
 ghost use Rattle.table.specs.Cells.{isBorn, unbornTable};
 ghost use Rattle.table.specs.Soundness.{recordSound, idleSlotSound, filledSound, sound};
+ghost use Rattle.table.specs.Glances.{oddSlot, glanceMore, clearOf};
 
 // What a slot holds: a target and rights over it (1 rd, 2 wr, 4 wk, 8 tx). Target 0 with rights 0 is an empty slot.
 #[repr(C)]
@@ -58,9 +59,16 @@ pub fn is_born(r: Record) -> bool
 pub fn record_sound(r: Record) -> bool
     ensures { λ x. ⌜ x ≡ recordSound r ⌝ }
 {
-    ((r.status <= 2) & (r.kind <= 1))
-        & (!(r.status == 0) | (r.kind == 0))
-        & ((r.status == 1) | ((r.word == 0) & (r.stock == 0)))
+    if r.status == 1 {
+        return r.kind <= 1;
+    }
+    if !((r.word == 0) & (r.stock == 0)) {
+        return false;
+    }
+    if r.status == 0 {
+        return r.kind == 0;
+    }
+    (r.status == 2) & (r.kind <= 1)
 }
 
 // Is a slot of the record as a sound table has it? `born` says whether its target is born.
@@ -73,8 +81,46 @@ pub fn slot_sound(r: Record, born: bool, c: Capability) -> bool
     (r.status == 1) & (born & (1 <= c.rights) & (c.rights <= 15))
 }
 
+// What a glance over a record's slots notes: is one of them filled, is one of them odd, and which targets there are, where an
+// empty slot's is 0.
+struct Glance {
+    filled: bool,
+    odd: bool,
+    named: u64,
+}
+
+// A slot that is right in no table: a target above 63, rights above 15, or a target with no rights.
+fn odd_slot(target: u8, rights: u8) -> bool
+    ensures { λ x. ⌜ x ≡ oddSlot target rights ⌝ }
+{
+    (64 <= target) | (16 <= rights) | (!(target == 0) & (rights == 0))
+}
+
+// One slot more.
+fn note(g: Glance, target: u8, rights: u8) -> Glance
+    ensures { λ x. ⌜ x ≡ glanceMore g target rights ⌝ }
+{
+    let odd = odd_slot(target, rights);
+    let named = mask::with(g.named, target % 64);
+    Glance {
+        filled: g.filled | !((target == 0) & (rights == 0)),
+        odd: g.odd | odd,
+        named: named,
+    }
+}
+
+// Are the slots of the record right by what was noted of all of them? Where this says no they are tested one by one.
+fn clear(g: Glance, r: Record, born: u64) -> bool
+    ensures { λ x. ⌜ x ≡ clearOf g r born ⌝ }
+{
+    if !g.filled {
+        return true;
+    }
+    (r.status == 1) & !g.odd & mask::subset(g.named, born)
+}
+
 // The soundness scan of records and slots: it ends at the first offence. `taken` are the numbers that no further stock
-// may have: the born ones, and those of the stocks that were passed.
+// may have: the born ones, and those of the stocks that were passed. Slots that a glance clears are not tested again.
 pub fn is_sound(t: Table) -> bool
     ensures { λ x. ⌜ x ≡ sound t ⌝ }
 {
@@ -96,7 +142,20 @@ pub fn is_sound(t: Table) -> bool
             break 'scan;
         }
         taken = mask::union(taken, r.stock);
+        let mut g = Glance {
+            filled: false,
+            odd: false,
+            named: 0,
+        };
+        let mut k: usize = 0;
+        'glance: while k < 8 {
+            g = note(g, t.slots[n * 8 + k].target, t.slots[n * 8 + k].rights);
+            k = k + 1;
+        }
         let mut j: usize = 0;
+        if clear(g, r, born) {
+            j = 8;
+        }
         'slots: while j < 8 {
             let c = t.slots[n * 8 + j];
             if !slot_sound(r, mask::has(born, c.target), c) {

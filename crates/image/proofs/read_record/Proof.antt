@@ -1,6 +1,7 @@
--- `image::read_record` meets its contract: each field is what its reader ensures. Four bytes fit the word. Assumes nothing.
+-- `image::read_record` meets its contract: each field is what its reader ensures. Four bytes fit 32 bits, so the word fits and so do
+-- the two halves of the stock. Assumes nothing.
 use native.Mathlib.Omega.{arith}
-use Rattle.image.proofs.Load.{word-fits, stored-made}
+use Rattle.image.proofs.Load.{four-fits, stored-made}
 use borrow.Author.Needs.{needs}
 use Rattle.image.proofs.read_record.Statement.{statement}
 use Rattle.image.proofs.read_record.Tie as tie
@@ -19,7 +20,7 @@ number-of-requires c κs = search needs
 
 cast-word : tie.Need-cast-word
 cast-word c = let e = c .number-of .ensures in
-    omega (arith, word-fits (c .before .before .before .args .part .now) (c .before .before .before .pre) (λ i. c .before .before .shared-slice-known .given i .fits))
+    omega (arith, four-fits (c .before .before .before .args .part .now) 2 (omega arith) (λ i. c .before .before .shared-slice-known .given i .fits))
 
 sub-number-of-2 : tie.Need-sub-number-of-2
 sub-number-of-2 c = search needs
@@ -33,17 +34,38 @@ part-number-of-end-2 c = search needs
 number-of-requires-2 : tie.Need-number-of-requires-2
 number-of-requires-2 c κs = search needs
 
+sub-number-of-3 : tie.Need-sub-number-of-3
+sub-number-of-3 c = search needs
+
+part-number-of-start-3 : tie.Need-part-number-of-start-3
+part-number-of-start-3 c = search needs
+
+part-number-of-end-3 : tie.Need-part-number-of-end-3
+part-number-of-end-3 c = search needs
+
+number-of-requires-3 : tie.Need-number-of-requires-3
+number-of-requires-3 c κs = search needs
+
 read-slots-requires : tie.Need-read-slots-requires
 read-slots-requires c κs = search needs
 
-shared-slice-read-t15 : tie.Need-shared-slice-read-t15
-shared-slice-read-t15 c = search needs
+shared-slice-read-t19 : tie.Need-shared-slice-read-t19
+shared-slice-read-t19 c = search needs
 
-shared-slice-read-t17 : tie.Need-shared-slice-read-t17
-shared-slice-read-t17 c = search needs
+shared-slice-read-t21 : tie.Need-shared-slice-read-t21
+shared-slice-read-t21 c = search needs
+
+mul-t7 : tie.Need-mul-t7
+mul-t7 c = let e = c .before .before .before .before .before .number-of2 .ensures in
+    omega (arith, four-fits (c .before .before .before .before .before .before .before .before .before .before .args .part .now) 6 (omega arith) (λ i. c .before .before .before .before .before .before .before .before .before .shared-slice-known .given i .fits))
+
+add-t22 : tie.Need-add-t22
+add-t22 c = let e = c .before .before .before .before .before .number-of2 .ensures in
+    let f = c .before .before .before .number-of3 .ensures in
+    omega (arith, four-fits (c .before .before .before .before .before .before .before .before .before .before .args .part .now) 6 (omega arith) (λ i. c .before .before .before .before .before .before .before .before .before .shared-slice-known .given i .fits), four-fits (c .before .before .before .before .before .before .before .before .before .before .args .part .now) 10 (omega arith) (λ i. c .before .before .before .before .before .before .before .before .before .shared-slice-known .given i .fits))
 
 returns : tie.Need-returns
-returns c = stored-made (c .before .before .before .before .before .before .before .before .args .part .now) _ _ _ (c .before .before .before .before .before .number-of .ensures) (c .before .before .before .number-of2 .ensures) (c .before .before .read-slots .ensures)
+returns c = stored-made (c .before .before .before .before .before .before .before .before .before .before .args .part .now) _ _ _ _ (c .before .before .before .before .before .before .before .before .before .before .pre) (c .before .before .before .before .before .before .before .number-of .ensures) (c .before .before .before .before .before .number-of2 .ensures) (c .before .before .before .number-of3 .ensures) (c .before .before .read-slots .ensures)
 
 pub read-record-spec : {M : Type 1} → statement M
 read-record-spec =
@@ -58,7 +80,13 @@ read-record-spec =
     part-number-of-start-2
     part-number-of-end-2
     number-of-requires-2
+    sub-number-of-3
+    part-number-of-start-3
+    part-number-of-end-3
+    number-of-requires-3
     read-slots-requires
-    shared-slice-read-t15
-    shared-slice-read-t17
+    shared-slice-read-t19
+    shared-slice-read-t21
+    mul-t7
+    add-t22
     returns)
