@@ -1,10 +1,7 @@
 // The proved table as the case's firmware links it from C or Rust. Everything that crosses is a number, a slice of bytes (its
 // pointer, then its length) or a struct of document 01's fields. The step has its table lent; the other calls take the table by
 // value, so that nothing can change it between their checks and their answer. Every answer is document 01's number, 0 for done.
-use access::AccessReply;
 use confinement::EntryList;
-use image::WriteReply;
-use requests::Reply;
 use table::Capability;
 use table::Table;
 ghost use mathlib.Core.Path.{_≡_};
@@ -13,7 +10,7 @@ ghost use Prim.Native.Nat.{_≤_, _<_};
 ghost use lib.ListN.{length, drop};
 ghost use Rattle.requests.specs.Replies.{number as replyNumber};
 ghost use Rattle.requests.specs.Steps.{stepOf};
-ghost use Rattle.access.specs.Answers.{accessNumber, accessOf};
+ghost use Rattle.access.specs.Answers.{accessOf};
 ghost use Rattle.confinement.specs.StandIn.{entriesOf};
 ghost use Rattle.confinement.specs.Tests.{testOf};
 ghost use Rattle.image.specs.Images.{writeNumber, readOf, writeRefusal, writtenOf};
@@ -43,45 +40,6 @@ pub struct Finding {
     pub number: u8,
 }
 
-// A reply by its number.
-fn reply_number(r: Reply) -> u8
-    ensures { λ n. ⌜ n ≡ replyNumber r ⌝ }
-{
-    match r {
-        Reply::Done => 0,
-        Reply::TableUnsound => 1,
-        Reply::FieldInvalid => 2,
-        Reply::ActorUnfit => 3,
-        Reply::SlotEmpty => 4,
-        Reply::TargetDead => 5,
-        Reply::RightAbsent => 6,
-        Reply::TargetPassive => 7,
-        Reply::ActorItself => 8,
-        Reply::NotInStock => 9,
-    }
-}
-
-// An answer of potential access by its number.
-fn access_number(r: AccessReply) -> u8
-    ensures { λ n. ⌜ n ≡ accessNumber r ⌝ }
-{
-    match r {
-        AccessReply::Done => 0,
-        AccessReply::TableUnsound => 1,
-    }
-}
-
-// An answer of writing by its number.
-fn write_number(r: WriteReply) -> u8
-    ensures { λ n. ⌜ n ≡ writeNumber r ⌝ }
-{
-    match r {
-        WriteReply::Done => 0,
-        WriteReply::TableUnsound => 1,
-        WriteReply::BufferShort => 16,
-    }
-}
-
 // 0 for a sound table, 1 for any other.
 #[no_mangle]
 pub extern "C" fn captable_sound(table: Table) -> u8
@@ -105,7 +63,7 @@ pub extern "C" fn captable_stepped(table: Table, request: &[u8]) -> Outcome
     let done = requests::step(table, what, list);
     let reply = done.reply;
     let next = done.table;
-    let number = reply_number(reply);
+    let number = numbers::of_reply(reply);
     Outcome {
         table: next,
         number: number,
@@ -132,7 +90,7 @@ pub extern "C" fn captable_access(table: Table) -> Relation
     let a = access::potential_access(table);
     let reply = a.reply;
     let rows = a.rows;
-    let number = access_number(reply);
+    let number = numbers::of_access(reply);
     Relation {
         rows: rows,
         number: number,
@@ -180,7 +138,7 @@ pub extern "C" fn captable_test(table: Table, members: u64, list: &[u8]) -> Find
     let entries = list_of(list);
     let tested = confinement::test(table, members, entries);
     let verdict = tested.verdict;
-    let number = report::verdict_number(verdict);
+    let number = numbers::of_verdict(verdict);
     Finding {
         bound: tested.bound,
         number: number,
@@ -195,7 +153,7 @@ pub extern "C" fn captable_read(image: &[u8]) -> Outcome
     let l = image::read(image);
     let reply = l.reply;
     let table = l.table;
-    let number = report::read_number(reply);
+    let number = numbers::of_read(reply);
     Outcome {
         table: table,
         number: number,
@@ -209,7 +167,7 @@ pub extern "C" fn captable_write(table: Table, buffer: &mut [u8]) -> u8
     ensures left { λ _. ⌜ now (buffer .exit) ≡ writtenOf table (now (buffer .entry)) ⌝ }
 {
     let reply = image::write(table, buffer);
-    write_number(reply)
+    numbers::of_write(reply)
 }
 
 // Puts what the program `confine` prints for the input at the buffer's start, and says how many bytes that is: at most 191. The

@@ -1,9 +1,7 @@
 // What the program `confine` prints for its input, document 01, "The stored image": from bytes to bytes.
 use confinement::EntryList;
 use confinement::Tested;
-use confinement::Verdict;
 use image::Loaded;
-use image::ReadReply;
 use table::Capability;
 
 mod lines; // lines.rt: the lines that are printed
@@ -13,38 +11,10 @@ ghost use mathlib.Core.List.{_++_};
 ghost use Prim.Native.Nat.{_+_, _*_, _≤_};
 ghost use lib.ListN.{length, take, drop};
 ghost use Rattle.table.specs.Lists.{tabulate};
-ghost use Rattle.confinement.specs.Refusals.{verdictNumber};
 ghost use Rattle.confinement.specs.StandIn.{entriesOf};
-ghost use Rattle.image.specs.Images.{readNumber};
 ghost use Rattle.report.specs.Input.{fixedLength, countOf, wrongLength, entryIn, listOf};
 ghost use Rattle.report.specs.Printed.{testLines, loadedLines, printedOf};
 ghost use Rattle.report.specs.Parts.{begun};
-
-// A refusal of the test by its number.
-pub fn verdict_number(v: Verdict) -> u8
-    ensures { λ r. ⌜ r ≡ verdictNumber v ⌝ }
-{
-    match v {
-        Verdict::Accepted => 0,
-        Verdict::TableUnsound => 1,
-        Verdict::MembersInvalid => 10,
-        Verdict::ListInvalid => 11,
-        Verdict::RightUnlisted => 12,
-        Verdict::MemberHeld => 13,
-    }
-}
-
-// A refusal of reading by its number.
-pub fn read_number(r: ReadReply) -> u8
-    ensures { λ n. ⌜ n ≡ readNumber r ⌝ }
-{
-    match r {
-        ReadReply::Done => 0,
-        ReadReply::TableUnsound => 1,
-        ReadReply::LengthWrong => 14,
-        ReadReply::VersionWrong => 15,
-    }
-}
 
 // 17: too short for a count byte, or not as long as its count says.
 fn wrong_length(input: &[u8]) -> bool
@@ -105,7 +75,7 @@ fn put_tested(out: &mut [u8], r: Tested) -> usize
     ensures left { λ _. ⌜ now (out .exit) ≡ begun (now (out .entry)) (testLines r) ⌝ }
 {
     let verdict = r.verdict;
-    let why = verdict_number(verdict);
+    let why = numbers::of_verdict(verdict);
     if why != 0 {
         return lines::put_refused(out, why);
     }
@@ -119,7 +89,7 @@ fn put_loaded(out: &mut [u8], l: Loaded, input: &[u8]) -> usize
     ensures left { λ _. ⌜ now (out .exit) ≡ begun (now (out .entry)) (loadedLines l (now (input .entry))) ⌝ }
 {
     let reply = l.reply;
-    let why = read_number(reply);
+    let why = numbers::of_read(reply);
     if why != 0 {
         return lines::put_refused(out, why);
     }

@@ -4,7 +4,6 @@ use crate::digest;
 use crate::input;
 use crate::output;
 use image::Loaded;
-use image::WriteReply;
 use table::Table;
 ghost use mathlib.Core.Path.{_≡_};
 ghost use lib.ListN.{length};
@@ -14,14 +13,6 @@ fn untouched() -> [u8; 4096]
     ensures { λ r. ⌜ 4096 ≡ length r ⌝ }
 {
     [0xA5; 4096]
-}
-
-fn write_number(reply: WriteReply) -> u64 {
-    match reply {
-        WriteReply::Done => 0,
-        WriteReply::TableUnsound => 1,
-        WriteReply::BufferShort => 16,
-    }
 }
 
 // The image that comes next in the file and fills the slice.
@@ -37,7 +28,7 @@ fn read(fd: i32, length: u16) -> Table {
     let loaded = load(fd, &mut space[..n]);
     let reply = loaded.reply;
     let t = loaded.table;
-    output::number(report::read_number(reply) as u64);
+    output::number(numbers::of_read(reply) as u64);
     output::digest(digest::of_table(t));
     t
 }
@@ -47,7 +38,7 @@ fn write(t: Table, length: u16) {
     let mut space = untouched();
     let n = io::count(length as isize, &space);
     let reply = image::write(t, &mut space[..n]);
-    output::number(write_number(reply));
+    output::number(numbers::of_write(reply) as u64);
     output::digest(digest::of_space(&space));
 }
 

@@ -2,21 +2,13 @@
 use crate::digest;
 use crate::input;
 use crate::output;
-use access::AccessReply;
-
-fn access_number(reply: AccessReply) -> u64 {
-    match reply {
-        AccessReply::Done => 0,
-        AccessReply::TableUnsound => 1,
-    }
-}
 
 fn answer(number: u64, s: &[u8]) {
     let found = access::potential_access(input::raw_table(s));
     let reply = found.reply;
     let rows = found.rows;
     output::number(number);
-    output::number(access_number(reply));
+    output::number(numbers::of_access(reply) as u64);
     output::digest(digest::of_rows(rows));
     output::text(b"\n");
 }

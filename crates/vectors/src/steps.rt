@@ -3,7 +3,6 @@
 use crate::digest;
 use crate::input;
 use crate::output;
-use requests::Reply;
 use requests::Stepped;
 use table::Table;
 
@@ -21,27 +20,12 @@ pub fn kept(found: bool, t: Table) -> Turn {
     }
 }
 
-fn reply_number(reply: Reply) -> u64 {
-    match reply {
-        Reply::Done => 0,
-        Reply::TableUnsound => 1,
-        Reply::FieldInvalid => 2,
-        Reply::ActorUnfit => 3,
-        Reply::SlotEmpty => 4,
-        Reply::TargetDead => 5,
-        Reply::RightAbsent => 6,
-        Reply::TargetPassive => 7,
-        Reply::ActorItself => 8,
-        Reply::NotInStock => 9,
-    }
-}
-
 // Prints the line of a step, and gives the table after it.
 fn answer(number: u64, stepped: Stepped) -> Table {
     let reply = stepped.reply;
     let after = stepped.table;
     output::number(number);
-    output::number(reply_number(reply));
+    output::number(numbers::of_reply(reply) as u64);
     output::digest(digest::of_table(after));
     output::text(b"\n");
     after

@@ -7,7 +7,7 @@ fn answer(number: u64, s: &[u8]) {
     let tested = confinement::test(t, input::set(s, 1920), input::entry_list(s, 1928));
     let verdict = tested.verdict;
     output::number(number);
-    output::number(report::verdict_number(verdict) as u64);
+    output::number(numbers::of_verdict(verdict) as u64);
     output::set(tested.bound);
     output::text(b"\n");
 }

@@ -9,12 +9,12 @@ use Rattle.captable.proofs.captable_access.Tie as tie
 potential-access-requires : tie.Need-potential-access-requires
 potential-access-requires c κs = search needs
 
-access-number-requires : tie.Need-access-number-requires
-access-number-requires c κs = search needs
+of-access-requires : tie.Need-of-access-requires
+of-access-requires c κs = search needs
 
 returns : tie.Need-returns
-returns c = ap (λ (n : ℕ). record { number = n; rows = c .before .before .potential-access .result .rows }) (c .access-number .ensures) ∙ ap related (c .before .before .potential-access .ensures)
+returns c = ap (λ (n : ℕ). record { number = n; rows = c .before .before .potential-access .result .rows }) (c .of-access .ensures) ∙ ap related (c .before .before .potential-access .ensures)
 
 pub captable-access-spec : {M : Type 1} → statement M
 captable-access-spec =
-    tie.close (tie.spec potential-access-requires access-number-requires returns)
+    tie.close (tie.spec potential-access-requires of-access-requires returns)

@@ -13,14 +13,14 @@ request-in-requires c κs = search needs
 step-requires : tie.Need-step-requires
 step-requires c κs = search needs
 
-reply-number-requires : tie.Need-reply-number-requires
-reply-number-requires c κs = search needs
+of-reply-requires : tie.Need-of-reply-requires
+of-reply-requires c κs = search needs
 
 returns : tie.Need-returns
 returns c = let t = c .before .before .before .before .before .before .args .table in
-    ap (λ (n : ℕ). record { number = n; table = c .before .before .step .result .table }) (c .reply-number .ensures)
+    ap (λ (n : ℕ). record { number = n; table = c .before .before .step .result .table }) (c .of-reply .ensures)
     ∙ ap stepped (c .before .before .step .ensures ∙ ap (stepOf t) (c .before .before .before .before .request-in .ensures))
 
 pub captable-stepped-spec : {M : Type 1} → statement M
 captable-stepped-spec =
-    tie.close (tie.spec request-in-requires step-requires reply-number-requires returns)
+    tie.close (tie.spec request-in-requires step-requires of-reply-requires returns)

@@ -13,16 +13,16 @@ list-of-requires c κs = search needs
 test-requires : tie.Need-test-requires
 test-requires c κs = search needs
 
-verdict-number-requires : tie.Need-verdict-number-requires
-verdict-number-requires c κs = search needs
+of-verdict-requires : tie.Need-of-verdict-requires
+of-verdict-requires c κs = search needs
 
 returns : tie.Need-returns
 returns c = let a = c .before .before .before .before .args in
     let l = c .before .before .list-of in
     let t = c .before .test in
-    ap (λ (n : ℕ). record { number = n; bound = t .result .bound }) (c .verdict-number .ensures)
+    ap (λ (n : ℕ). record { number = n; bound = t .result .bound }) (c .of-verdict .ensures)
     ∙ ap found (t .ensures ∙ test-held (a .table) (a .members) (l .result) (listIn (a .list .now)) (l .ensures .0) (l .ensures .1))
 
 pub captable-test-spec : {M : Type 1} → statement M
 captable-test-spec =
-    tie.close (tie.spec list-of-requires test-requires verdict-number-requires returns)
+    tie.close (tie.spec list-of-requires test-requires of-verdict-requires returns)

@@ -8,14 +8,14 @@ use Rattle.captable.proofs.captable_write.Tie as tie
 write-requires : tie.Need-write-requires
 write-requires c κs = search needs
 
-write-number-requires : tie.Need-write-number-requires
-write-number-requires c κs = search needs
+of-write-requires : tie.Need-of-write-requires
+of-write-requires c κs = search needs
 
 same-length : tie.Need-same-length
 same-length c = search needs
 
 returns : tie.Need-returns
-returns c = (c .write-number .ensures ∙ ap writeNumber (c .before .before .before .write .ensures .0), c .before .before .before .write .ensures .1)
+returns c = (c .of-write .ensures ∙ ap writeNumber (c .before .before .before .write .ensures .0), c .before .before .before .write .ensures .1)
 
 pub captable-write-spec : {M : Type 1} → statement M
-captable-write-spec = tie.close (tie.spec write-requires write-number-requires same-length returns)
+captable-write-spec = tie.close (tie.spec write-requires of-write-requires same-length returns)

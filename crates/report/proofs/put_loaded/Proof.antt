@@ -6,18 +6,18 @@ use borrow.Author.Needs.{needs}
 use Rattle.report.proofs.put_loaded.Statement.{statement}
 use Rattle.report.proofs.put_loaded.Tie as tie
 
-read-number-requires : tie.Need-read-number-requires
-read-number-requires c κs = search needs
+of-read-requires : tie.Need-of-read-requires
+of-read-requires c κs = search needs
 
 put-refused-requires : tie.Need-put-refused-requires
-put-refused-requires c κs = let e = c .before .before .read-number .ensures in omega (arith, read-small (c .before .before .before .before .before .args .l .reply))
+put-refused-requires c κs = let e = c .before .before .of-read .ensures in omega (arith, read-small (c .before .before .before .before .before .args .l .reply))
 
 same-length : tie.Need-same-length
 same-length c = search needs
 
 returns : tie.Need-returns
 returns c = let a = c .before .before .before .before .before .before .before .before .args in
-    let n = c .before .before .before .before .before .read-number in
+    let n = c .before .before .before .before .before .of-read in
     rw (loaded-refused (a .l) (a .input .now) (n .result) (n .ensures) (c .before .before .before .before .if1 .taken)) (c .before .before .put-refused .ensures)
 
 sub-number-of : tie.Need-sub-number-of
@@ -46,7 +46,7 @@ same-length-2 c = search needs
 
 returns-2 : tie.Need-returns-2
 returns-2 c = let a = c .before .before .before .before .before .before .before .before .before .before .before .before .before .args in
-    let n = c .before .before .before .before .before .before .before .before .before .before .read-number in
+    let n = c .before .before .before .before .before .before .before .before .before .before .of-read in
     let m = c .before .before .before .before .before .before .number-of in
     let l = c .before .before .before .before .before .read-list in
     let t = c .before .before .before .before .test in
@@ -57,7 +57,7 @@ pub put-loaded-spec : {M : Type 1} → statement M
 put-loaded-spec =
     tie.close
     (tie.spec
-    read-number-requires
+    of-read-requires
     put-refused-requires
     same-length
     returns

@@ -5,17 +5,17 @@ use borrow.Author.Needs.{needs}
 use Rattle.report.proofs.put_tested.Statement.{statement}
 use Rattle.report.proofs.put_tested.Tie as tie
 
-verdict-number-requires : tie.Need-verdict-number-requires
-verdict-number-requires c κs = search needs
+of-verdict-requires : tie.Need-of-verdict-requires
+of-verdict-requires c κs = search needs
 
 put-refused-requires : tie.Need-put-refused-requires
-put-refused-requires c κs = let e = c .before .before .verdict-number .ensures in omega (arith, verdict-small (c .before .before .before .before .args .r .verdict))
+put-refused-requires c κs = let e = c .before .before .of-verdict .ensures in omega (arith, verdict-small (c .before .before .before .before .args .r .verdict))
 
 same-length : tie.Need-same-length
 same-length c = search needs
 
 returns : tie.Need-returns
-returns c = let n = c .before .before .before .before .before .verdict-number in
+returns c = let n = c .before .before .before .before .before .of-verdict in
     rw (tested-refused (c .before .before .before .before .before .before .before .args .r) (n .result) (n .ensures) (c .before .before .before .before .if1 .taken)) (c .before .before .put-refused .ensures)
 
 put-accepted-requires : tie.Need-put-accepted-requires
@@ -25,14 +25,14 @@ same-length-2 : tie.Need-same-length-2
 same-length-2 c = search needs
 
 returns-2 : tie.Need-returns-2
-returns-2 c = let n = c .before .before .before .before .before .verdict-number in
+returns-2 c = let n = c .before .before .before .before .before .of-verdict in
     rw (tested-accepted (c .before .before .before .before .before .before .before .args .r) (n .result) (n .ensures) (c .before .before .before .before .if1 .left)) (c .before .before .put-accepted .ensures)
 
 pub put-tested-spec : {M : Type 1} → statement M
 put-tested-spec =
     tie.close
     (tie.spec
-    verdict-number-requires
+    of-verdict-requires
     put-refused-requires
     same-length
     returns
