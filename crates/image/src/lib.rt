@@ -104,12 +104,13 @@ fn read_record(part: &[u8]) -> Stored
     let word = number_of(&part[2..6]) as u32;
     let high = number_of(&part[6..10]);
     let low = number_of(&part[10..14]);
+    let stock = high * 4294967296 + low;
     let slots = read_slots(part);
     let object = Record {
         status: part[0],
         kind: part[1],
         word: word,
-        stock: high * 4294967296 + low,
+        stock: stock,
     };
     Stored {
         object: object,

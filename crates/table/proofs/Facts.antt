@@ -6,9 +6,9 @@ use mathlib.Core.Bool.{Bool, true, false, not, _&&_, _||_}
 use Prim.Native.Nat.{ℕ, _≤_, _<_}
 use native.Mathlib.Omega.{arith}
 use lib.Dec.{leb, ltb, eqb}
-use borrow.Author.Tests.{ltb-true, ltb-false, leb-true, eqb-true, eqb-false, le-leb, eq-eqb, ne-eqb, not-true}
+use borrow.Author.Tests.{ltb-true, ltb-false, leb-true, eqb-true, eqb-false, le-leb, eq-eqb, ne-eqb, not-true, not-false}
 use Rattle.mask.specs.Sets.{has, allBelow}
-use Rattle.mask.proofs.Tests.{byCases, byEq, clash, and-true, and-intro, or-cases, or-left, or-right, imply-intro, imply-use}
+use Rattle.mask.proofs.Tests.{byCases, byEq, clash, bool-ext, and-true, and-intro, or-cases, or-left, or-right, imply-intro, imply-use}
 use Rattle.mask.proofs.Below.{all-at, all-intro}
 use Rattle.mask.proofs.Bits.{has-zero}
 use Rattle.table.specs.declared.Capability.{Capability}
@@ -70,6 +70,36 @@ fine-record r f = and-intro (valuesSound r && unbornSound r) (idleSound r)
     (byEq (r .status) 1
     (λ e. or-left (isAlive r) _ (eq-eqb _ 1 e))
     (λ e. or-right (isAlive r) _ (and-intro (eqb (r .word) 0) (eqb (r .stock) 0) (eq-eqb _ 0 (f .still e .0)) (eq-eqb _ 0 (f .still e .1)))))
+
+-- the test by the status: alive, idle with something left, unborn, dead
+module _ (r : Record) where
+  pub alive-record : r .status ≡ 1 → leb (r .kind) 1 ≡ recordSound r
+  alive-record e = bool-ext (leb (r .kind) 1) (recordSound r)
+      (λ k. fine-record r (record { low = omega arith; sort = leb-true _ 1 k; still = λ n. absurd (n e); plain = λ z. absurd (omega arith) }))
+      (λ s. le-leb _ 1 (record-fine r s .sort))
+
+  pub idle-record : r .status ≢ 1 → not (eqb (r .word) 0 && eqb (r .stock) 0) ≡ true → false ≡ recordSound r
+  idle-record a e = byCases (recordSound r)
+      (λ s. let w = record-fine r s .still a in clash (and-intro (eqb (r .word) 0) (eqb (r .stock) 0) (eq-eqb _ 0 (w .0)) (eq-eqb _ 0 (w .1))) (not-true _ e))
+      (λ s. sym s)
+
+  module _ (e : not (eqb (r .word) 0 && eqb (r .stock) 0) ≡ false) where
+    nothing : (r .word ≡ 0) × (r .stock ≡ 0)
+    nothing = let w = and-true (eqb (r .word) 0) (eqb (r .stock) 0) (not-false _ e) in (eqb-true _ 0 (w .0), eqb-true _ 0 (w .1))
+
+    pub unborn-record : r .status ≡ 0 → eqb (r .kind) 0 ≡ recordSound r
+    unborn-record u = bool-ext (eqb (r .kind) 0) (recordSound r)
+        (λ k. let z = eqb-true (r .kind) 0 k in fine-record r (record { low = omega arith; sort = omega arith; still = λ n. nothing; plain = λ q. z }))
+        (λ s. eq-eqb _ 0 (record-fine r s .plain u))
+
+    pub dead-record : r .status ≢ 1 → r .status ≢ 0 → (eqb (r .status) 2 && leb (r .kind) 1) ≡ recordSound r
+    dead-record a u = bool-ext (eqb (r .status) 2 && leb (r .kind) 1) (recordSound r)
+        (λ k. let p = and-true (eqb (r .status) 2) (leb (r .kind) 1) k in
+        let z = eqb-true (r .status) 2 (p .0) in
+        fine-record r (record { low = omega arith; sort = leb-true _ 1 (p .1); still = λ n. nothing; plain = λ q. absurd (u q) }))
+        (λ s. let f = record-fine r s in
+        let low = f .low in
+        and-intro (eqb (r .status) 2) (leb (r .kind) 1) (eq-eqb (r .status) 2 (omega arith)) (le-leb _ 1 (f .sort)))
 
 -- a slot --------------------------------------------------------------------------------
 empty-fine : (a b : ℕ) (c : Capability) → isEmpty c ≡ true → SlotFine a b c

@@ -46,23 +46,23 @@ part-number-of-end-3 c = search needs
 number-of-requires-3 : tie.Need-number-of-requires-3
 number-of-requires-3 c κs = search needs
 
+mul-stock : tie.Need-mul-stock
+mul-stock c = let e = c .before .before .number-of2 .ensures in
+    omega (arith, four-fits (c .before .before .before .before .before .before .before .args .part .now) 6 (omega arith) (λ i. c .before .before .before .before .before .before .shared-slice-known .given i .fits))
+
+add-stock : tie.Need-add-stock
+add-stock c = let e = c .before .before .number-of2 .ensures in
+    let f = c .number-of3 .ensures in
+    omega (arith, four-fits (c .before .before .before .before .before .before .before .args .part .now) 6 (omega arith) (λ i. c .before .before .before .before .before .before .shared-slice-known .given i .fits), four-fits (c .before .before .before .before .before .before .before .args .part .now) 10 (omega arith) (λ i. c .before .before .before .before .before .before .shared-slice-known .given i .fits))
+
 read-slots-requires : tie.Need-read-slots-requires
 read-slots-requires c κs = search needs
 
-shared-slice-read-t19 : tie.Need-shared-slice-read-t19
-shared-slice-read-t19 c = search needs
+shared-slice-read-t20 : tie.Need-shared-slice-read-t20
+shared-slice-read-t20 c = search needs
 
-shared-slice-read-t21 : tie.Need-shared-slice-read-t21
-shared-slice-read-t21 c = search needs
-
-mul-t7 : tie.Need-mul-t7
-mul-t7 c = let e = c .before .before .before .before .before .number-of2 .ensures in
-    omega (arith, four-fits (c .before .before .before .before .before .before .before .before .before .before .args .part .now) 6 (omega arith) (λ i. c .before .before .before .before .before .before .before .before .before .shared-slice-known .given i .fits))
-
-add-t22 : tie.Need-add-t22
-add-t22 c = let e = c .before .before .before .before .before .number-of2 .ensures in
-    let f = c .before .before .before .number-of3 .ensures in
-    omega (arith, four-fits (c .before .before .before .before .before .before .before .before .before .before .args .part .now) 6 (omega arith) (λ i. c .before .before .before .before .before .before .before .before .before .shared-slice-known .given i .fits), four-fits (c .before .before .before .before .before .before .before .before .before .before .args .part .now) 10 (omega arith) (λ i. c .before .before .before .before .before .before .before .before .before .shared-slice-known .given i .fits))
+shared-slice-read-t22 : tie.Need-shared-slice-read-t22
+shared-slice-read-t22 c = search needs
 
 returns : tie.Need-returns
 returns c = stored-made (c .before .before .before .before .before .before .before .before .before .before .args .part .now) _ _ _ _ (c .before .before .before .before .before .before .before .before .before .before .pre) (c .before .before .before .before .before .before .before .number-of .ensures) (c .before .before .before .before .before .number-of2 .ensures) (c .before .before .before .number-of3 .ensures) (c .before .before .read-slots .ensures)
@@ -84,9 +84,9 @@ read-record-spec =
     part-number-of-start-3
     part-number-of-end-3
     number-of-requires-3
+    mul-stock
+    add-stock
     read-slots-requires
-    shared-slice-read-t19
-    shared-slice-read-t21
-    mul-t7
-    add-t22
+    shared-slice-read-t20
+    shared-slice-read-t22
     returns)
