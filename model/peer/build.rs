@@ -12,7 +12,7 @@ fn main() {
     let archive = out.join("libpeerscan.a");
     // An archive of an earlier build would keep its old object beside the new one.
     let _ = std::fs::remove_file(&archive);
-    run(Command::new("cc")
+    run(Command::new("gcc")
         .args(["-O3", "-Wall", "-Wextra", "-c", "scan.c", "-o"])
         .arg(&object));
     run(Command::new("ar").arg("crs").arg(&archive).arg(&object));
