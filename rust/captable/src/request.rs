@@ -1,5 +1,7 @@
 //! A request, and its bytes: the code, then document 01's fields in their order.
 
+use crate::Set;
+
 /// The code of each request.
 mod code {
     pub const READ: u8 = 1;
@@ -24,42 +26,92 @@ pub const REQUEST_BYTES: usize = 22;
 /// A pair of a list: the actor's slot, the destination slot.
 pub type Pair = (u8, u8);
 
-/// A request. `t` is the actor's slot that is used, and its target is the target. Any field may be out
-/// of range: the step refuses it.
+/// A request. Any field may be out of range: the step refuses it.
 #[derive(Clone, Copy, Debug, PartialEq, Eq)]
-#[allow(missing_docs)] // the fields are document 01's, and each variant says what they do
 pub enum Request<'a> {
     /// The actor's word becomes the target's word. Needs rd or wk.
-    Read { actor: u8, t: u8 },
-    /// The target's word becomes the word. Needs wr.
-    Write { actor: u8, t: u8, word: u32 },
-    /// The target's slot i goes to the actor's slot j, weakened if rd is absent. Needs rd or wk.
-    Fetch { actor: u8, t: u8, i: u8, j: u8 },
-    /// The actor's slot i goes to the target's slot j. Needs wr.
-    Store { actor: u8, t: u8, i: u8, j: u8 },
-    /// The target's slot j is emptied. Needs wr.
-    Revoke { actor: u8, t: u8, j: u8 },
-    /// The word and the pairs go to an active target, and its slot `reply` gets (actor, tx) unless it is
-    /// [`NO_REPLY`]. Needs tx.
-    Send {
+    Read {
+        /// The object that asks.
         actor: u8,
+        /// The actor's slot that is used; its target is the target.
         t: u8,
+    },
+    /// The target's word becomes the word. Needs wr.
+    Write {
+        /// The object that asks.
+        actor: u8,
+        /// The actor's slot that is used; its target is the target.
+        t: u8,
+        /// The new word.
         word: u32,
+    },
+    /// The target's slot i goes to the actor's slot j, weakened if rd is absent. Needs rd or wk.
+    Fetch {
+        /// The object that asks.
+        actor: u8,
+        /// The actor's slot that is used; its target is the target.
+        t: u8,
+        /// The target's slot that is copied.
+        i: u8,
+        /// The actor's slot that the copy lands in.
+        j: u8,
+    },
+    /// The actor's slot i goes to the target's slot j. Needs wr.
+    Store {
+        /// The object that asks.
+        actor: u8,
+        /// The actor's slot that is used; its target is the target.
+        t: u8,
+        /// The actor's slot that is copied.
+        i: u8,
+        /// The target's slot that the copy lands in.
+        j: u8,
+    },
+    /// The target's slot j is emptied. Needs wr.
+    Revoke {
+        /// The object that asks.
+        actor: u8,
+        /// The actor's slot that is used; its target is the target.
+        t: u8,
+        /// The target's slot that is emptied.
+        j: u8,
+    },
+    /// The word and the pairs go to an active target, and then perhaps a capability to answer by. Needs
+    /// tx.
+    Send {
+        /// The object that asks.
+        actor: u8,
+        /// The actor's slot that is used; its target is the target.
+        t: u8,
+        /// The target's new word.
+        word: u32,
+        /// The actor's slots that are copied into the target, in this order.
         list: &'a [Pair],
+        /// The target's slot that gets (actor, tx), or [`NO_REPLY`].
         reply: u8,
     },
-    /// n, of the actor's stock, becomes alive with a kind, a part of the stock and the pairs; the actor's
-    /// slot i gets all rights over it.
+    /// A number of the actor's stock becomes an alive object.
     Allocate {
+        /// The object that asks.
         actor: u8,
+        /// The number that becomes alive.
         n: u8,
+        /// Its kind.
         kind: u8,
-        part: u64,
+        /// The part of the actor's stock that it gets.
+        part: Set,
+        /// The actor's slot that gets all rights over it.
         i: u8,
+        /// The actor's slots that are copied into it, in this order.
         list: &'a [Pair],
     },
     /// The target becomes dead, and its stock joins the actor's. Needs wr.
-    Destroy { actor: u8, t: u8 },
+    Destroy {
+        /// The object that asks.
+        actor: u8,
+        /// The actor's slot that is used; its target is the target.
+        t: u8,
+    },
 }
 
 /// The bytes of a request, as [`Table::step_bytes`](crate::Table::step_bytes) takes them.
