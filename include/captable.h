@@ -3,7 +3,8 @@
  *
  * Link with libcaptable.a, which `rt staticlib captable` proves and writes. It needs memcpy and memset
  * and nothing else: no heap, no global state, no other call. Every call ends, whatever it is handed; the
- * only thing that is taken on trust is that a pointer points to as many bytes as its length says.
+ * only thing that is taken on trust is that a pointer points to as many bytes as its length says. With a
+ * length of 0 it may be NULL.
  *
  * The table is one fixed table of 64 objects with eight capabilities each. Its rules are document 01's,
  * and every answer is document 01's number: 0 for done, or why not (enum captable_number).

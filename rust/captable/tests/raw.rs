@@ -1,0 +1,66 @@
+//! The boundary itself: both forms of the step agree, no bytes at all may come with a null pointer, and
+//! what `confine` prints leaves the rest of its buffer.
+
+mod common;
+
+use captable::raw::{
+    captable_confine, captable_read, captable_step, captable_stepped, captable_test, captable_write,
+};
+use captable::{Table, WR};
+use common::{k, set};
+use std::ptr::{null, null_mut};
+
+#[test]
+fn both_forms_of_the_step_agree() {
+    let write = [2, 4, 0, 0, 0, 0, 7];
+    for request in [&write[..], &write[..6], &[99, 0], &[1, 2, 0]] {
+        let mut lent = k();
+        // SAFETY: the table and the bytes are this test's own.
+        let (number, outcome) = unsafe {
+            (
+                captable_step(lent.as_raw_mut(), request.as_ptr(), request.len()),
+                captable_stepped(*k().as_raw(), request.as_ptr(), request.len()),
+            )
+        };
+        assert_eq!(outcome.number, number);
+        assert_eq!(outcome.table, *lent.as_raw());
+        assert_eq!(lent == k(), number != 0 || request == [1, 2, 0]);
+    }
+}
+
+#[test]
+fn no_bytes_may_come_with_a_null_pointer() {
+    let mut table = k();
+    let mut printed = [0xaa; 256];
+    // SAFETY: a length of 0 asks for no byte.
+    unsafe {
+        assert_eq!(captable_step(table.as_raw_mut(), null(), 0), 2);
+        assert_eq!(captable_stepped(*k().as_raw(), null(), 0).number, 2);
+        assert_eq!(
+            captable_test(*k().as_raw(), set(&[5]), null(), 0).number,
+            12
+        );
+        let refused = captable_read(null(), 0);
+        assert_eq!(
+            (refused.number, refused.table),
+            (14, *Table::unborn().as_raw())
+        );
+        assert_eq!(captable_write(*k().as_raw(), null_mut(), 0), 16);
+        assert_eq!(captable_confine(null(), 0, &mut printed), 11);
+    }
+    assert_eq!(table, k());
+    assert_eq!(&printed[..11], b"refused 17\n");
+    assert_eq!(printed[11..], [0xaa; 245]);
+}
+
+#[test]
+fn example_1_is_printed() {
+    let mut input = k().to_image().expect("K is sound").to_vec();
+    input.extend(set(&[5]).to_be_bytes());
+    input.extend([1, 1, WR]);
+    let mut printed = [0xaa; 256];
+    // SAFETY: the input and the buffer are this test's own.
+    let length = unsafe { captable_confine(input.as_ptr(), input.len(), &mut printed) };
+    assert_eq!(&printed[..length], b"accepted\n0\n1\n2\n");
+    assert!(printed[length..].iter().all(|&byte| byte == 0xaa));
+}
