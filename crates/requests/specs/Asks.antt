@@ -1,7 +1,7 @@
 -- Document 01, "The eight requests": a request as it is written there, with its fields in the order shown and a true list of
 -- pairs. Sameness of requests, field for field, is equality of these.
-use mathlib.Core.List.{List}
-use Prim.Native.Nat.{ℕ}
+use mathlib.Core.List.{List, [], _∷_}
+use Prim.Native.Nat.{ℕ, _^_, _<_}
 use lib.ListN.{getD}
 use Rattle.table.specs.Lists.{tabulate}
 use Rattle.requests.specs.declared.Pair.{Pair}
@@ -44,6 +44,22 @@ actorOf (send a t w l y) = a
 actorOf (allocate a n k p i l) = a
 actorOf (destroy a t) = a
 actorOf (unknown c a) = a
+
+-- every field within its bits, as the code's values have it: a byte each, the word 32 bits, the part 64
+abbrev pub PairsInBits : List Pair → Type 0
+PairsInBits [] = Unit {0}
+PairsInBits (p ∷ ps) = (p .from < 2 ^ 8) × (p .to < 2 ^ 8) × PairsInBits ps
+
+abbrev pub InBits : Ask → Type 0
+InBits (read a t) = (a < 2 ^ 8) × (t < 2 ^ 8)
+InBits (write a t w) = (a < 2 ^ 8) × (t < 2 ^ 8) × (w < 2 ^ 32)
+InBits (fetch a t i j) = (a < 2 ^ 8) × (t < 2 ^ 8) × (i < 2 ^ 8) × (j < 2 ^ 8)
+InBits (store a t i j) = (a < 2 ^ 8) × (t < 2 ^ 8) × (i < 2 ^ 8) × (j < 2 ^ 8)
+InBits (revoke a t j) = (a < 2 ^ 8) × (t < 2 ^ 8) × (j < 2 ^ 8)
+InBits (send a t w l y) = (a < 2 ^ 8) × (t < 2 ^ 8) × (w < 2 ^ 32) × PairsInBits l × (y < 2 ^ 8)
+InBits (allocate a n k p i l) = (a < 2 ^ 8) × (n < 2 ^ 8) × (k < 2 ^ 8) × (p < 2 ^ 64) × (i < 2 ^ 8) × PairsInBits l
+InBits (destroy a t) = (a < 2 ^ 8) × (t < 2 ^ 8)
+InBits (unknown c a) = (c < 2 ^ 8) × (a < 2 ^ 8)
 
 -- the pair at a place of a list, as the code holds it
 abbrev pub pairAt : PairList → ℕ → Pair
