@@ -9,8 +9,8 @@ use Rattle.table.specs.declared.Table.{Table}
 use Rattle.table.specs.Cells.{emptySlot}
 use Rattle.table.specs.Lists.{tabulate}
 use Rattle.table.specs.Soundness.{sound}
-use Rattle.requests.specs.declared.Stepped.{Stepped}
-use Rattle.requests.specs.Replies.{number}
+use Rattle.steps.specs.declared.Stepped.{Stepped}
+use Rattle.refusals.specs.Replies.{number}
 use Rattle.access.specs.declared.Access.{Access}
 use Rattle.access.specs.Answers.{accessNumber}
 use Rattle.confinement.specs.declared.Tested.{Tested}

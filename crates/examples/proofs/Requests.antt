@@ -6,10 +6,10 @@ use Rattle.mask.specs.Sets.{bits, allBelow, excluding, lessOf, subsetOf}
 use Rattle.table.specs.Cells.{recordAt, stockAt, emptySlot}
 use Rattle.table.specs.Soundness.{stockSound, soundAt, sound}
 use Rattle.requests.specs.Asks.{read, write, allocate}
-use Rattle.requests.specs.Replies.{number}
-use Rattle.requests.specs.Refusals.{badSlots, badList, badField, needMet, through, throughSlot, notInStock, laterRows, refusal}
-use Rattle.requests.specs.Effects.{weaken, copyPairs, stockLess, allocated, effect}
-use Rattle.requests.specs.Steps.{after, stepOf}
+use Rattle.refusals.specs.Replies.{number}
+use Rattle.refusals.specs.Refusals.{badSlots, badList, badField, needMet, through, throughSlot, notInStock, laterRows, refusal}
+use Rattle.effects.specs.Effects.{weaken, copyPairs, stockLess, allocated, effect}
+use Rattle.steps.specs.Steps.{after, stepOf}
 use Rattle.examples.specs.TableK.{K, over}
 use Rattle.examples.specs.Statement.{the, making}
 

@@ -7,10 +7,10 @@ use Rattle.table.specs.declared.Capability.{Capability}
 use Rattle.table.specs.declared.Table.{Table}
 use Rattle.table.specs.Cells.{recordAt, stockAt, putSlot, emptySlot}
 use Rattle.requests.specs.Asks.{Ask, read, write, allocate}
-use Rattle.requests.specs.Replies.{number}
-use Rattle.requests.specs.Refusals.{refusal}
-use Rattle.requests.specs.Effects.{weaken}
-use Rattle.requests.specs.Steps.{after, stepOf}
+use Rattle.refusals.specs.Replies.{number}
+use Rattle.refusals.specs.Refusals.{refusal}
+use Rattle.effects.specs.Effects.{weaken}
+use Rattle.steps.specs.Steps.{after, stepOf}
 use Rattle.access.specs.Relation.{Right, rd, wr, wk, tx, Can, tableHolding}
 use Rattle.confinement.specs.Refusals.{verdictNumber}
 use Rattle.confinement.specs.Tests.{testOf}

@@ -19,11 +19,11 @@ use Rattle.table.specs.Cells.{emptySlot, recordAt, slotAt, statusAt, stockAt, p
 use Rattle.table.proofs.Cells.{Sized, record-put, record-same}
 use Rattle.table.proofs.Facts.{Sound}
 use Rattle.requests.specs.declared.Pair.{Pair}
-use Rattle.requests.specs.declared.Reply.the-variants.{Done, NotInStock}
+use Rattle.refusals.specs.declared.Reply.the-variants.{Done, NotInStock}
 use Rattle.requests.specs.Asks.{allocate}
-use Rattle.requests.specs.Replies.{isDone}
-use Rattle.requests.specs.Refusals.{noObject, noSlot, badList, badField, notInStock, laterRows, refusal}
-use Rattle.requests.specs.Effects.{withStock, made, fullOver, stockLess, copyPairs, allocated, effect}
+use Rattle.refusals.specs.Replies.{isDone}
+use Rattle.refusals.specs.Refusals.{noObject, noSlot, badList, badField, notInStock, laterRows, refusal}
+use Rattle.effects.specs.Effects.{withStock, made, fullOver, stockLess, copyPairs, allocated, effect}
 use Rattle.isolation.specs.Clean.{Clean, adding}
 use Rattle.isolation.specs.Demand.{AgreeOn}
 use Rattle.isolation.proofs.Invariant.{Isolated, nobody-clean, putSlot-isolated, putRecord-isolated, agree-slot-out, agree-record-out, agree-trans, agree-slot, agree-record}

@@ -10,19 +10,19 @@ use Rattle.mask.proofs.Tests.{byCases, clash, or-none}
 use Rattle.table.specs.declared.Capability.{Capability}
 use Rattle.table.specs.declared.Record.{Record}
 use Rattle.table.specs.declared.Table.{Table}
-use Rattle.table.specs.Cells.{recordAt, slotAt, isActive, isDead, isEmpty}
+use Rattle.table.specs.Cells.{recordAt, slotAt, isActive, isEmpty}
 use Rattle.table.specs.Soundness.{sound}
 use Rattle.table.proofs.Facts.{sound-true}
-use Rattle.requests.specs.declared.Need.{Need}
-use Rattle.requests.specs.declared.Need.the-variants.{ReadOrWeak, Write, Send}
-use Rattle.requests.specs.declared.Reply.{Reply}
-use Rattle.requests.specs.declared.Reply.the-variants.{Done, FieldInvalid, ActorUnfit, SlotEmpty, TargetDead, RightAbsent, TargetPassive, ActorItself, NotInStock}
+use Rattle.refusals.specs.declared.Need.{Need}
+use Rattle.refusals.specs.declared.Need.the-variants.{ReadOrWeak, Write, Send}
+use Rattle.refusals.specs.declared.Reply.{Reply}
+use Rattle.refusals.specs.declared.Reply.the-variants.{Done, FieldInvalid, ActorUnfit, SlotEmpty, TargetDead, RightAbsent, TargetPassive, ActorItself, NotInStock}
 use Rattle.requests.specs.Asks.{Ask, read, write, fetch, store, revoke, send, allocate, destroy, unknown, actorOf}
-use Rattle.requests.specs.Replies.{isDone}
-use Rattle.requests.specs.Refusals.{refuse, noSlot, noObject, badList, badField, unfit, needMet, through, throughSlot, notInStock, targetOf, laterRows, refusal}
-use Rattle.requests.specs.Effects.{effect}
-use Rattle.requests.specs.Steps.{after}
-use Rattle.requests.proofs.Refused.{refused-keeps, done-effects}
+use Rattle.refusals.specs.Replies.{isDone}
+use Rattle.refusals.specs.Refusals.{refuse, noSlot, noObject, badList, badField, unfit, needMet, alive, otherStatus, through, throughSlot, notInStock, targetOf, laterRows, refusal}
+use Rattle.effects.specs.Effects.{effect}
+use Rattle.steps.specs.Steps.{after}
+use Rattle.steps.proofs.Refused.{refused-keeps, done-effects}
 use Rattle.isolation.specs.Clean.{Clean, adding, cleanAfter}
 use Rattle.isolation.specs.Demand.{AgreeOn}
 use Rattle.isolation.proofs.Invariant.{Isolated}
@@ -34,39 +34,39 @@ use Rattle.isolation.proofs.Destroys.{destroy-isolated, destroy-both}
 use Rattle.isolation.proofs.Others.{unknown-refused}
 
 -- rows 4 to 6 look at the target only where the slot is filled
-through-by : (c : Capability) (r s : Record) (able : Bool) (x y : Reply) → (isEmpty c ≡ false → (r ≡ s) × (x ≡ y)) → through c r able x ≡ through c s able y
+through-by : (c : Capability) (r s : Record) (wanted : ℕ) (able : Bool) (x y : Reply) → (isEmpty c ≡ false → (r ≡ s) × (x ≡ y)) → through c r wanted able x ≡ through c s wanted able y
 unfolding through
-through-by c r s able x y f = byCases (isEmpty c)
+through-by c r s wanted able x y f = byCases (isEmpty c)
     (λ e. rw e refl)
-    (λ e. ap₂ (λ (w : Record) (z : Reply). refuse (isEmpty c) SlotEmpty (refuse (isDead w) TargetDead (refuse (not able) RightAbsent z))) (f e .0) (f e .1))
+    (λ e. ap₂ (λ (w : Record) (z : Reply). refuse (isEmpty c) SlotEmpty (refuse (otherStatus wanted w) TargetDead (refuse (not able) RightAbsent z))) (f e .0) (f e .1))
 
 -- the fields come first, the slot second
 slot-of : (a s : ℕ) → (noObject a || noSlot s) ≡ false → s < 8
 slot-of a s e = slot-low s (or-none (noObject a) (noSlot s) e .1)
 
 module _ (C : Clean) (t u : Table) (v : Isolated t C) (w : Isolated u C) (ag : AgreeOn C t u) where
-  through-same : (a s : ℕ) (need : Need) (x y : Reply) → C a ≡ true → s < 8 → (1 ≤ slotAt t a s .rights → x ≡ y) → throughSlot t a s need x ≡ throughSlot u a s need y
+  through-same : (a s wanted : ℕ) (need : Need) (x y : Reply) → C a ≡ true → s < 8 → (1 ≤ slotAt t a s .rights → x ≡ y) → throughSlot t a s wanted need x ≡ throughSlot u a s wanted need y
   unfolding throughSlot
-  through-same a s need x y c hs h =
-      through-by (slotAt t a s) (recordAt t (targetOf t a s)) (recordAt u (targetOf t a s)) (needMet need (slotAt t a s .rights)) x y
+  through-same a s wanted need x y c hs h =
+      through-by (slotAt t a s) (recordAt t (targetOf t a s)) (recordAt u (targetOf t a s)) wanted (needMet need (slotAt t a s .rights)) x y
       (λ e. let f = filled-slot _ _ _ (v .sound .slots a s hs) e in (ag .records _ (v .inside a s hs c f), h f))
-      ∙ ap (λ (k : Capability). through k (recordAt u (k .target)) (needMet need (k .rights)) y) (ag .slots a s hs c)
+      ∙ ap (λ (k : Capability). through k (recordAt u (k .target)) wanted (needMet need (k .rights)) y) (ag .slots a s hs c)
 
   later-same : (q : Ask) → C (actorOf q) ≡ true → badField q ≡ false → laterRows t q ≡ laterRows u q
   unfolding badField laterRows
-  later-same (read a s) c f = through-same a s ReadOrWeak Done Done c (slot-of a s f) (λ l. refl)
-  later-same (write a s x) c f = through-same a s Write Done Done c (slot-of a s f) (λ l. refl)
-  later-same (fetch a s i j) c f = through-same a s ReadOrWeak Done Done c (slot-of a s (or-none (noObject a || noSlot s) (noSlot i) (or-none (noObject a || noSlot s || noSlot i) (noSlot j) f .0) .0)) (λ l. refl)
-  later-same (store a s i j) c f = through-same a s Write Done Done c (slot-of a s (or-none (noObject a || noSlot s) (noSlot i) (or-none (noObject a || noSlot s || noSlot i) (noSlot j) f .0) .0)) (λ l. refl)
-  later-same (revoke a s j) c f = through-same a s Write Done Done c (slot-of a s (or-none (noObject a || noSlot s) (noSlot j) f .0)) (λ l. refl)
+  later-same (read a s) c f = through-same a s alive ReadOrWeak Done Done c (slot-of a s f) (λ l. refl)
+  later-same (write a s x) c f = through-same a s alive Write Done Done c (slot-of a s f) (λ l. refl)
+  later-same (fetch a s i j) c f = through-same a s alive ReadOrWeak Done Done c (slot-of a s (or-none (noObject a || noSlot s) (noSlot i) (or-none (noObject a || noSlot s || noSlot i) (noSlot j) f .0) .0)) (λ l. refl)
+  later-same (store a s i j) c f = through-same a s alive Write Done Done c (slot-of a s (or-none (noObject a || noSlot s) (noSlot i) (or-none (noObject a || noSlot s || noSlot i) (noSlot j) f .0) .0)) (λ l. refl)
+  later-same (revoke a s j) c f = through-same a s alive Write Done Done c (slot-of a s (or-none (noObject a || noSlot s) (noSlot j) f .0)) (λ l. refl)
   later-same (send a s x l y) c f =
       let hs = slot-of a s (or-none (noObject a || noSlot s) (badList l) (or-none (noObject a || noSlot s || badList l) _ f .0) .0) in
-      through-same a s Send _ _ c hs (λ r. ap (λ (k : Record). refuse (not (isActive k)) TargetPassive Done)
+      through-same a s alive Send _ _ c hs (λ r. ap (λ (k : Record). refuse (not (isActive k)) TargetPassive Done)
       (ag .records _ (v .inside a s hs c r) ∙ ap (λ (k : Capability). recordAt u (k .target)) (ag .slots a s hs c)))
   later-same (allocate a n k p i l) c f = ap (λ (r : Record). refuse (notInStock n p (r .stock)) NotInStock Done) (ag .records a c)
   later-same (destroy a s) c f =
       let hs = slot-of a s f in
-      through-same a s Write _ _ c hs (λ r. ap (λ (k : Capability). refuse (eqb (k .target) a) ActorItself Done) (ag .slots a s hs c))
+      through-same a s alive Write _ _ c hs (λ r. ap (λ (k : Capability). refuse (eqb (k .target) a) ActorItself Done) (ag .slots a s hs c))
   later-same (unknown k a) c f = refl
 
   pub same-reply : (q : Ask) → C (actorOf q) ≡ true → refusal t q ≡ refusal u q

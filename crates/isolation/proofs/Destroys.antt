@@ -14,13 +14,13 @@ use Rattle.table.specs.declared.Record.{Record}
 use Rattle.table.specs.declared.Table.{Table}
 use Rattle.table.specs.Cells.{recordAt, slotAt, statusAt, stockAt, putRecord}
 use Rattle.table.proofs.Cells.{record-put, sized-putRecord}
-use Rattle.requests.specs.declared.Need.the-variants.{Write}
-use Rattle.requests.specs.declared.Reply.{Reply}
-use Rattle.requests.specs.declared.Reply.the-variants.{Done, ActorItself}
+use Rattle.refusals.specs.declared.Need.the-variants.{Write}
+use Rattle.refusals.specs.declared.Reply.{Reply}
+use Rattle.refusals.specs.declared.Reply.the-variants.{Done, ActorItself}
 use Rattle.requests.specs.Asks.{destroy}
-use Rattle.requests.specs.Replies.{isDone}
-use Rattle.requests.specs.Refusals.{refuse, badField, laterRows, refusal, targetOf}
-use Rattle.requests.specs.Effects.{clearSlots, withStock, died, destroyed, effect}
+use Rattle.refusals.specs.Replies.{isDone}
+use Rattle.refusals.specs.Refusals.{refuse, badField, laterRows, refusal, targetOf}
+use Rattle.effects.specs.Effects.{clearSlots, withStock, died, destroyed, effect}
 use Rattle.isolation.specs.Clean.{Clean}
 use Rattle.isolation.specs.Demand.{AgreeOn}
 use Rattle.isolation.proofs.Invariant.{Isolated, putRecord-isolated, agree-record-out, agree-trans, agree-record}

@@ -6,10 +6,10 @@ use mathlib.Core.List.{List, [], _∷_}
 use Prim.Native.Nat.{ℕ}
 use Rattle.table.specs.declared.Capability.{Capability}
 use Rattle.table.specs.declared.Table.{Table}
-use Rattle.requests.specs.declared.Reply.{Reply}
-use Rattle.requests.specs.declared.Stepped.{Stepped}
+use Rattle.refusals.specs.declared.Reply.{Reply}
+use Rattle.steps.specs.declared.Stepped.{Stepped}
 use Rattle.requests.specs.Asks.{Ask}
-use Rattle.requests.specs.Steps.{after, stepOf, runTable, runReplies}
+use Rattle.steps.specs.Steps.{after, stepOf, runTable, runReplies}
 use Rattle.isolation.specs.Clean.{cleanAtStart, cleanAtEnd, cleanRequests}
 use Rattle.isolation.specs.Demand.{AgreeOn, BothAccepted, TwoRuns}
 use Rattle.isolation.proofs.TwoRuns.{two-runs}

@@ -14,17 +14,18 @@ use Rattle.mask.proofs.Bits.{has-excluding, subset-at}
 use Rattle.table.specs.declared.Capability.{Capability}
 use Rattle.table.specs.declared.Record.{Record}
 use Rattle.table.specs.declared.Table.{Table}
-use Rattle.table.specs.Cells.{recordAt, slotAt, statusAt, isAlive, isDead, isActive, isEmpty}
+use Rattle.table.specs.Cells.{recordAt, slotAt, statusAt, isAlive, isActive, isEmpty}
 use Rattle.table.specs.Soundness.{sound}
 use Rattle.table.proofs.Cells.{Sized, record-high}
 use Rattle.table.proofs.Facts.{SlotFine, Sound}
 use Rattle.requests.specs.declared.Pair.{Pair}
-use Rattle.requests.specs.declared.Need.{Need}
-use Rattle.requests.specs.declared.Reply.{Reply}
-use Rattle.requests.specs.declared.Reply.the-variants.{Done, TableUnsound, FieldInvalid, ActorUnfit, SlotEmpty, TargetDead, RightAbsent}
+use Rattle.refusals.specs.declared.Need.{Need}
+use Rattle.refusals.specs.declared.Reply.{Reply}
+use Rattle.refusals.specs.declared.Reply.the-variants.{Done, TableUnsound, FieldInvalid, ActorUnfit, SlotEmpty, TargetDead, RightAbsent}
 use Rattle.requests.specs.Asks.{Ask, actorOf}
-use Rattle.requests.specs.Replies.{isDone}
-use Rattle.requests.specs.Refusals.{refuse, noSlot, noObject, badSlots, badList, badField, unfit, needMet, through, throughSlot, notInStock, targetOf, rightsOf, laterRows, refusal}
+use Rattle.refusals.specs.Replies.{isDone}
+use Rattle.refusals.proofs.Rows.{status-wanted}
+use Rattle.refusals.specs.Refusals.{refuse, noSlot, noObject, badSlots, badList, badField, unfit, needMet, alive, otherStatus, through, throughSlot, notInStock, targetOf, rightsOf, laterRows, refusal}
 
 -- a row that did not turn the request down
 pub passed : (cause : Bool) (why rest : Reply) → isDone why ≡ false → isDone (refuse cause why rest) ≡ true → (cause ≡ false) × (isDone rest ≡ true)
@@ -72,12 +73,12 @@ filled-slot a b c f e = byEq (c .rights) 0
     (λ q. omega arith)
 
 pub granted : (t : Table) (a s : ℕ) (need : Need) (rest : Reply) → Sound t → (noObject a || noSlot s) ≡ false → statusAt t a ≡ 1
-    → isDone (throughSlot t a s need rest) ≡ true → (Granted t a s need) × (isDone rest ≡ true)
+    → isDone (throughSlot t a s alive need rest) ≡ true → (Granted t a s need) × (isDone rest ≡ true)
 unfolding throughSlot through
 granted t a s need rest d f l e =
     let c = slotAt t a s in
     let r4 = passed (isEmpty c) SlotEmpty _ refl e in
-    let r5 = passed (isDead (recordAt t (c .target))) TargetDead _ refl (r4 .1) in
+    let r5 = passed (otherStatus alive (recordAt t (c .target))) TargetDead _ refl (r4 .1) in
     let r6 = passed (not (needMet need (c .rights))) RightAbsent rest refl (r5 .1) in
     let p = or-none (noObject a) (noSlot s) f in
     let hs = slot-low s (p .1) in
@@ -90,14 +91,11 @@ granted t a s need rest d f l e =
         alive = l;
         filled = h;
         target = born-low t (c .target) (d .size) b;
-        there = near (statusAt t (c .target)) b (d .records (c .target) .low) (eqb-false (statusAt t (c .target)) 2 (r5 .0));
+        there = status-wanted alive (recordAt t (c .target)) b (d .records (c .target) .low) (r5 .0);
         right = not-false _ (r6 .0);
       },
       r6 .1,
     )
-  where
-    near : (k : ℕ) → 1 ≤ k → k ≤ 2 → k ≢ 2 → k ≡ 1
-    near k p q n = omega arith
 
 -- a pair list --------------------------------------------------------------------------
 pub data Ranged : List Pair → Type 0 where

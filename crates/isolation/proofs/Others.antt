@@ -10,11 +10,11 @@ use Rattle.table.specs.Soundness.{sound}
 use Rattle.table.proofs.Cells.{Sized}
 use Rattle.table.proofs.Facts.{Sound, sound-facts, sound-true}
 use Rattle.requests.specs.Asks.{Ask, read, write, fetch, store, revoke, send, allocate, destroy, unknown, actorOf}
-use Rattle.requests.specs.Replies.{isDone}
-use Rattle.requests.specs.Refusals.{badField, refusal}
-use Rattle.requests.specs.Effects.{effect}
-use Rattle.requests.specs.Steps.{after}
-use Rattle.requests.proofs.Refused.{refused-keeps, done-effects}
+use Rattle.refusals.specs.Replies.{isDone}
+use Rattle.refusals.specs.Refusals.{badField, refusal}
+use Rattle.effects.specs.Effects.{effect}
+use Rattle.steps.specs.Steps.{after}
+use Rattle.steps.proofs.Refused.{refused-keeps, done-effects}
 use Rattle.isolation.specs.Clean.{Clean}
 use Rattle.isolation.specs.Demand.{AgreeOn}
 use Rattle.isolation.proofs.Invariant.{Isolated, agree-refl}

@@ -10,37 +10,37 @@ use lib.ListN.{getD}
 use Rattle.table.specs.declared.Capability.{Capability}
 use Rattle.table.specs.declared.Record.{Record}
 use Rattle.table.specs.declared.Table.{Table}
-use Rattle.table.specs.Cells.{recordAt, stockAt, isActive, isEmpty, isDead}
+use Rattle.table.specs.Cells.{recordAt, stockAt, isActive, isEmpty}
 use Rattle.table.specs.Soundness.{sound}
 use Rattle.table.proofs.Cells.{Sized}
 use Rattle.table.proofs.Facts.{Sound, sound-facts, sound-true}
-use Rattle.requests.specs.declared.Need.{Need}
-use Rattle.requests.specs.declared.Reply.{Reply}
-use Rattle.requests.specs.declared.Reply.the-variants.{Done, FieldInvalid, ActorUnfit, SlotEmpty, TargetDead, RightAbsent, TargetPassive, ActorItself, NotInStock}
+use Rattle.refusals.specs.declared.Need.{Need}
+use Rattle.refusals.specs.declared.Reply.{Reply}
+use Rattle.refusals.specs.declared.Reply.the-variants.{Done, FieldInvalid, ActorUnfit, SlotEmpty, TargetDead, RightAbsent, TargetPassive, ActorItself, NotInStock}
 use Rattle.requests.specs.Asks.{Ask, read, write, fetch, store, revoke, send, allocate, destroy, unknown, actorOf}
-use Rattle.requests.specs.Replies.{number}
-use Rattle.requests.specs.Refusals.{refuse, badField, unfit, notInStock, targetOf, targetRecord, through, throughSlot, laterRows, refusal}
-use Rattle.requests.specs.Steps.{after, runTable, runReplies}
+use Rattle.refusals.specs.Replies.{number}
+use Rattle.refusals.specs.Refusals.{refuse, badField, unfit, notInStock, targetOf, targetRecord, otherStatus, through, throughSlot, laterRows, refusal}
+use Rattle.steps.specs.Steps.{after, runTable, runReplies}
 use Rattle.isolation.proofs.Others.{sound-step}
 
 refuse-not : (cause : Bool) (why rest : Reply) → number why ≢ 1 → number rest ≢ 1 → number (refuse cause why rest) ≢ 1
 refuse-not true why rest p q = p
 refuse-not false why rest p q = q
 
-through-not : (c : Capability) (r : Record) (able : Bool) (rest : Reply) → number rest ≢ 1 → number (through c r able rest) ≢ 1
+through-not : (c : Capability) (r : Record) (wanted : ℕ) (able : Bool) (rest : Reply) → number rest ≢ 1 → number (through c r wanted able rest) ≢ 1
 unfolding through
-through-not c r able rest h = refuse-not (isEmpty c) SlotEmpty _ (λ e. omega arith) (refuse-not (isDead r) TargetDead _ (λ e. omega arith) (refuse-not (not able) RightAbsent rest (λ e. omega arith) h))
+through-not c r wanted able rest h = refuse-not (isEmpty c) SlotEmpty _ (λ e. omega arith) (refuse-not (otherStatus wanted r) TargetDead _ (λ e. omega arith) (refuse-not (not able) RightAbsent rest (λ e. omega arith) h))
 
 later-not : (t : Table) (q : Ask) → number (laterRows t q) ≢ 1
 unfolding laterRows throughSlot
-later-not t (read a s) = through-not _ _ _ Done (λ e. omega arith)
-later-not t (write a s w) = through-not _ _ _ Done (λ e. omega arith)
-later-not t (fetch a s i j) = through-not _ _ _ Done (λ e. omega arith)
-later-not t (store a s i j) = through-not _ _ _ Done (λ e. omega arith)
-later-not t (revoke a s j) = through-not _ _ _ Done (λ e. omega arith)
-later-not t (send a s w l y) = through-not _ _ _ _ (refuse-not (not (isActive (targetRecord t a s))) TargetPassive Done (λ e. omega arith) (λ e. omega arith))
+later-not t (read a s) = through-not _ _ _ _ Done (λ e. omega arith)
+later-not t (write a s w) = through-not _ _ _ _ Done (λ e. omega arith)
+later-not t (fetch a s i j) = through-not _ _ _ _ Done (λ e. omega arith)
+later-not t (store a s i j) = through-not _ _ _ _ Done (λ e. omega arith)
+later-not t (revoke a s j) = through-not _ _ _ _ Done (λ e. omega arith)
+later-not t (send a s w l y) = through-not _ _ _ _ _ (refuse-not (not (isActive (targetRecord t a s))) TargetPassive Done (λ e. omega arith) (λ e. omega arith))
 later-not t (allocate a n k p i l) = refuse-not (notInStock n p (stockAt t a)) NotInStock Done (λ e. omega arith) (λ e. omega arith)
-later-not t (destroy a s) = through-not _ _ _ _ (refuse-not (eqb (targetOf t a s) a) ActorItself Done (λ e. omega arith) (λ e. omega arith))
+later-not t (destroy a s) = through-not _ _ _ _ _ (refuse-not (eqb (targetOf t a s) a) ActorItself Done (λ e. omega arith) (λ e. omega arith))
 later-not t (unknown k a) = λ e. omega arith
 
 -- a sound table is never answered 1

@@ -7,10 +7,10 @@ use mathlib.Core.List.{List, [], _∷_}
 use Prim.Native.Nat.{ℕ}
 use Rattle.mask.proofs.Tests.{byCases}
 use Rattle.table.specs.declared.Table.{Table}
-use Rattle.requests.specs.declared.Reply.{Reply}
+use Rattle.refusals.specs.declared.Reply.{Reply}
 use Rattle.requests.specs.Asks.{Ask, actorOf}
-use Rattle.requests.specs.Refusals.{refusal}
-use Rattle.requests.specs.Steps.{after, runTable}
+use Rattle.refusals.specs.Refusals.{refusal}
+use Rattle.steps.specs.Steps.{after, runTable}
 use Rattle.isolation.specs.Clean.{Clean, cleanAfter, cleanAtEnd, cleanRequests, cleanReplies}
 use Rattle.isolation.specs.Demand.{AgreeOn}
 use Rattle.isolation.proofs.Invariant.{Isolated, agree-refl, agree-sym, agree-trans}

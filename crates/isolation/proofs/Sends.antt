@@ -12,11 +12,11 @@ use Rattle.table.specs.declared.Table.{Table}
 use Rattle.table.specs.Cells.{recordAt, slotAt, statusAt, putRecord}
 use Rattle.table.proofs.Cells.{record-put, sized-putRecord}
 use Rattle.requests.specs.declared.Pair.{Pair}
-use Rattle.requests.specs.declared.Need.the-variants.{Send}
+use Rattle.refusals.specs.declared.Need.the-variants.{Send}
 use Rattle.requests.specs.Asks.{send}
-use Rattle.requests.specs.Replies.{isDone}
-use Rattle.requests.specs.Refusals.{noObject, noSlot, badList, badField, laterRows, refusal, targetOf}
-use Rattle.requests.specs.Effects.{withWord, copyPairs, sent, effect}
+use Rattle.refusals.specs.Replies.{isDone}
+use Rattle.refusals.specs.Refusals.{noObject, noSlot, badList, badField, laterRows, refusal, targetOf}
+use Rattle.effects.specs.Effects.{withWord, copyPairs, sent, effect}
 use Rattle.isolation.specs.Clean.{Clean}
 use Rattle.isolation.specs.Demand.{AgreeOn}
 use Rattle.isolation.proofs.Invariant.{Isolated, putRecord-isolated, agree-record-out, agree-trans, agree-record}

@@ -11,10 +11,10 @@ use Rattle.table.specs.declared.Record.{Record}
 use Rattle.table.specs.declared.Table.{Table}
 use Rattle.table.specs.Cells.{emptySlot, recordAt, slotAt, statusAt, stockAt, hasRd}
 use Rattle.table.proofs.Facts.{Sound}
-use Rattle.requests.specs.declared.Need.{Need}
-use Rattle.requests.specs.declared.Need.the-variants.{ReadOrWeak, Write, Send}
-use Rattle.requests.specs.Refusals.{needMet, targetOf, rightsOf}
-use Rattle.requests.specs.Effects.{weaken, fetched, withWord}
+use Rattle.refusals.specs.declared.Need.{Need}
+use Rattle.refusals.specs.declared.Need.the-variants.{ReadOrWeak, Write, Send}
+use Rattle.refusals.specs.Refusals.{needMet, targetOf, rightsOf}
+use Rattle.effects.specs.Effects.{weaken, fetched, withWord}
 use Rattle.isolation.specs.Clean.{Clean}
 use Rattle.isolation.proofs.Invariant.{wkAlone, Isolated, RecordFits}
 use Rattle.isolation.proofs.Granted.{Granted}

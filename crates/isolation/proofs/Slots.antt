@@ -9,13 +9,13 @@ use Rattle.table.specs.declared.Capability.{Capability}
 use Rattle.table.specs.declared.Table.{Table}
 use Rattle.table.specs.Cells.{recordAt, slotAt, hasRd}
 use Rattle.table.proofs.Cells.{Sized}
-use Rattle.requests.specs.declared.Need.{Need}
-use Rattle.requests.specs.declared.Need.the-variants.{ReadOrWeak, Write}
-use Rattle.requests.specs.declared.Reply.the-variants.{Done}
+use Rattle.refusals.specs.declared.Need.{Need}
+use Rattle.refusals.specs.declared.Need.the-variants.{ReadOrWeak, Write}
+use Rattle.refusals.specs.declared.Reply.the-variants.{Done}
 use Rattle.requests.specs.Asks.{read, write, fetch, store, revoke}
-use Rattle.requests.specs.Replies.{isDone}
-use Rattle.requests.specs.Refusals.{noObject, noSlot, badField, laterRows, refusal, targetOf, rightsOf}
-use Rattle.requests.specs.Effects.{fetched, effect}
+use Rattle.refusals.specs.Replies.{isDone}
+use Rattle.refusals.specs.Refusals.{noObject, noSlot, badField, laterRows, refusal, targetOf, rightsOf}
+use Rattle.effects.specs.Effects.{fetched, effect}
 use Rattle.isolation.specs.Clean.{Clean}
 use Rattle.isolation.specs.Demand.{AgreeOn}
 use Rattle.isolation.proofs.Invariant.{Isolated, SlotFits, putSlot-isolated, putRecord-isolated, agree-record-out, agree-slot-out, agree-record, agree-slot}

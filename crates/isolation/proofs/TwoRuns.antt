@@ -26,7 +26,7 @@ use Rattle.confinement.specs.Agreement.{AgreeOutside}
 use Rattle.confinement.proofs.Bound.{bound-same}
 use Rattle.confinement.proofs.Facts.{Facts, accepted-facts}
 use Rattle.requests.specs.Asks.{Ask}
-use Rattle.requests.specs.Steps.{runTable}
+use Rattle.steps.specs.Steps.{runTable}
 use Rattle.isolation.specs.Clean.{Clean, cleanAtStart, cleanAtEnd, cleanRequests, cleanReplies}
 use Rattle.isolation.specs.Demand.{AgreeOn, Alike, BothAccepted, Same, TwoRuns}
 use Rattle.isolation.proofs.Invariant.{wkAlone, Isolated, agree-refl}

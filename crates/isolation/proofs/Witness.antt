@@ -24,12 +24,12 @@ use Rattle.access.specs.Closure.{grow, spread, only, reached, bothTakePart, hol
 use Rattle.confinement.specs.StandIn.{listed, lowestFrom, standIn, testNode, testHeld, boundOf}
 use Rattle.confinement.specs.Refusals.{verdictNumber, badMembers, badEntry, badList, allListed, badHeld, memberHeld, verdictOf}
 use Rattle.confinement.specs.Agreement.{AgreeOutside}
-use Rattle.requests.specs.declared.Reply.{Reply}
-use Rattle.requests.specs.declared.Reply.the-variants.{Done}
+use Rattle.refusals.specs.declared.Reply.{Reply}
+use Rattle.refusals.specs.declared.Reply.the-variants.{Done}
 use Rattle.requests.specs.Asks.{Ask, read, write, allocate}
-use Rattle.requests.specs.Refusals as Rows
-use Rattle.requests.specs.Effects.{landed, copyPairs, stockLess, allocated, effect}
-use Rattle.requests.specs.Steps.{after, runTable}
+use Rattle.refusals.specs.Refusals as Rows
+use Rattle.effects.specs.Effects.{landed, copyPairs, stockLess, allocated, effect}
+use Rattle.steps.specs.Steps.{after, runTable}
 use Rattle.isolation.specs.Clean.{Clean, cleanAtStart, cleanAfter, cleanAtEnd, cleanRequests, cleanReplies}
 use Rattle.isolation.specs.Demand.{Alike, BothAccepted, TwoRuns}
 use Rattle.isolation.proofs.TwoRuns.{two-runs}

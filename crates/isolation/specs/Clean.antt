@@ -10,11 +10,11 @@ use Rattle.table.specs.declared.Capability.{Capability}
 use Rattle.table.specs.declared.Table.{Table}
 use Rattle.access.specs.Relation.{takesPart}
 use Rattle.confinement.specs.StandIn.{boundOf}
-use Rattle.requests.specs.declared.Reply.{Reply}
+use Rattle.refusals.specs.declared.Reply.{Reply}
 use Rattle.requests.specs.Asks.{Ask, read, write, fetch, store, revoke, send, allocate, destroy, unknown, actorOf}
-use Rattle.requests.specs.Replies.{isDone}
-use Rattle.requests.specs.Refusals.{refusal}
-use Rattle.requests.specs.Steps.{after}
+use Rattle.refusals.specs.Replies.{isDone}
+use Rattle.refusals.specs.Refusals.{refusal}
+use Rattle.steps.specs.Steps.{after}
 
 -- a set of objects, by its test
 abbrev pub Clean : Type 0

@@ -12,7 +12,7 @@ use Rattle.confinement.specs.StandIn.{boundOf}
 use Rattle.confinement.specs.Refusals.{verdictOf, verdictNumber}
 use Rattle.confinement.specs.Agreement.{AgreeOutside}
 use Rattle.requests.specs.Asks.{Ask}
-use Rattle.requests.specs.Steps.{runTable}
+use Rattle.steps.specs.Steps.{runTable}
 use Rattle.isolation.specs.Clean.{Clean, cleanAtStart, cleanAtEnd, cleanRequests, cleanReplies}
 
 -- "The same record means that every field and every slot is equal": the two tables agree on the objects of C

@@ -13,18 +13,18 @@ use denote.Enum.Laws as EL
 use Rattle.table.specs.declared.Table.{Table}
 use Rattle.requests.specs.declared.Request.{Request}
 use Rattle.requests.specs.declared.PairList.{PairList}
-use Rattle.requests.specs.declared.Reply.{Reply}
-use Rattle.requests.specs.declared.Stepped.{Stepped}
+use Rattle.refusals.specs.declared.Reply.{Reply}
+use Rattle.steps.specs.declared.Stepped.{Stepped}
 use Rattle.table.proofs.Table as T
 use Rattle.table.proofs.Table.Laws as T′
 use Rattle.requests.proofs.Request as Q
 use Rattle.requests.proofs.Request.Laws as Q′
 use Rattle.requests.proofs.PairList as L
 use Rattle.requests.proofs.PairList.Laws as L′
-use Rattle.requests.proofs.Reply as R
-use Rattle.requests.proofs.Reply.Laws as R′
-use Rattle.requests.proofs.Stepped as S
-use Rattle.requests.proofs.Stepped.Laws as S′
+use Rattle.refusals.proofs.Reply as R
+use Rattle.refusals.proofs.Reply.Laws as R′
+use Rattle.steps.proofs.Stepped as S
+use Rattle.steps.proofs.Stepped.Laws as S′
 
 abbrev pub t-val : Table → Val
 t-val d = LL.val T.the-type T′.the-laws d

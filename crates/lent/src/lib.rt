@@ -1,20 +1,20 @@
 // The step on a table that is lent: "The case holds one table and each request changes that table itself", document 01.
 // Nothing else takes the table by reference, since a walk by hand stands behind each such function.
+use refusals::Reply;
 use requests::PairList;
-use requests::Reply;
 use requests::Request;
-use requests::Stepped;
+use steps::Stepped;
 use table::Table;
 ghost use mathlib.Core.Path.{_≡_};
 ghost use Rattle.requests.specs.Asks.{askOf};
-ghost use Rattle.requests.specs.Steps.{stepOf};
+ghost use Rattle.steps.specs.Steps.{stepOf};
 
 // One request on the lent table: the reply. The table is left as the definition says, on refusals too: as it was.
 pub fn step_in_place(table: &mut Table, request: Request, list: PairList) -> Reply
     ensures { λ r. ⌜ (r ≡ stepOf (now (table .entry)) (askOf request list) .reply) × (now (table .exit) ≡ stepOf (now (table .entry)) (askOf request list) .table) ⌝ }
 {
     let before = *table;
-    let s = requests::step(before, request, list);
+    let s = steps::step(before, request, list);
     let after = s.table;
     *table = after;
     s.reply

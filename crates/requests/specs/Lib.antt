@@ -1,6 +1,1 @@
 pub mod Asks
-pub mod Replies
-pub mod Refusals
-pub mod Effects
-pub mod Steps
-pub mod Parts

@@ -1,14 +1,14 @@
 // Runs the proved code on the cases of data/, which the reference model makes, and prints what it answers, a line for each case.
 // The model also makes the expected output, so the gate compares two programs that share no code. The safety and the end of this
 // program are proved; what it prints is tested.
-use steps::Turn;
+use turns::Turn;
 
 mod digest; // digest.rt: a short number for a table, a buffer or a relation
 mod images; // images.rt: images read, and tables written
 mod input; // input.rt: tables, requests and lists out of a case's bytes
 mod output; // output.rt: the words and numbers of a line
 mod relations; // relations.rt: potential access
-mod steps; // steps.rt: requests
+mod turns; // turns.rt: requests
 mod verdicts; // verdicts.rt: confinement tests
 
 // What a file's cases are put to.
@@ -25,13 +25,13 @@ enum Part {
 // One case, or the end of the file. Only a chain uses and changes the table.
 fn turn(part: Part, fd: i32, number: u64, t: table::Table) -> Turn {
     match part {
-        Part::Images => steps::kept(images::case(fd, number), t),
-        Part::Writes => steps::kept(images::raw_case(fd, number), t),
-        Part::Steps => steps::kept(steps::case(fd, number), t),
-        Part::Chain => steps::link(fd, number, t, false),
-        Part::Lent => steps::link(fd, number, t, true),
-        Part::Tests => steps::kept(verdicts::case(fd, number), t),
-        Part::Relations => steps::kept(relations::case(fd, number), t),
+        Part::Images => turns::kept(images::case(fd, number), t),
+        Part::Writes => turns::kept(images::raw_case(fd, number), t),
+        Part::Steps => turns::kept(turns::case(fd, number), t),
+        Part::Chain => turns::link(fd, number, t, false),
+        Part::Lent => turns::link(fd, number, t, true),
+        Part::Tests => turns::kept(verdicts::case(fd, number), t),
+        Part::Relations => turns::kept(relations::case(fd, number), t),
     }
 }
 
@@ -55,7 +55,7 @@ fn cases(part: Part, fd: i32, start: table::Table) -> u64 {
 // The table that a chain starts from stands before its requests.
 fn start(part: Part, fd: i32) -> table::Table {
     match part {
-        Part::Chain | Part::Lent => steps::chain_start(fd),
+        Part::Chain | Part::Lent => turns::chain_start(fd),
         Part::Images | Part::Writes | Part::Steps | Part::Tests | Part::Relations =>
             table::unborn_table(),
     }

@@ -44,7 +44,7 @@ use denote.Triple.Clauses.{ensured, lasts}
 use denote.Exit.{yes}
 use Rattle.wire.specs.Wires.{askFrom}
 use Rattle.captable.specs.Crossing.{stepped}
-use Rattle.requests.specs.Steps.{stepOf}
+use Rattle.steps.specs.Steps.{stepOf}
 use Rattle.table.specs.declared.Table.{Table}
 use Rattle.captable.specs.declared.Outcome.{Outcome}
 use Rattle.table.proofs.Table as T

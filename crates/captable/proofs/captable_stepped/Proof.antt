@@ -1,7 +1,7 @@
 -- `captable::captable_stepped` meets its contract. Assumes nothing.
 use mathlib.Core.Path.{_∙_, ap}
 use Prim.Native.Nat.{ℕ}
-use Rattle.requests.specs.Steps.{stepOf}
+use Rattle.steps.specs.Steps.{stepOf}
 use Rattle.captable.specs.Crossing.{stepped}
 use borrow.Author.Needs.{needs}
 use Rattle.captable.proofs.captable_stepped.Statement.{statement}

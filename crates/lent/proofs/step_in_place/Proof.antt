@@ -40,26 +40,26 @@ use denote.Triple.Walked.{says, Stays, stay-ref, stay-none, walkOf, AllGo, goes-
 use denote.Triple.Clauses.{ensured, lasts}
 use denote.Exit.{yes}
 use Rattle.requests.specs.Asks.{askOf}
-use Rattle.requests.specs.Steps.{stepOf}
+use Rattle.steps.specs.Steps.{stepOf}
 use Rattle.table.specs.declared.Table.{Table}
 use Rattle.requests.specs.declared.Request.{Request}
 use Rattle.requests.specs.declared.PairList.{PairList}
-use Rattle.requests.specs.declared.Reply.{Reply}
-use Rattle.requests.specs.declared.Stepped.{Stepped}
+use Rattle.refusals.specs.declared.Reply.{Reply}
+use Rattle.steps.specs.declared.Stepped.{Stepped}
 use Rattle.table.proofs.Table as T
 use Rattle.table.proofs.Table.Laws as T′
 use Rattle.requests.proofs.Request as Q
 use Rattle.requests.proofs.Request.Laws as Q′
 use Rattle.requests.proofs.PairList as L
 use Rattle.requests.proofs.PairList.Laws as L′
-use Rattle.requests.proofs.Reply as R
-use Rattle.requests.proofs.Reply.Laws as R′
-use Rattle.requests.proofs.Stepped as S
-use Rattle.requests.proofs.Stepped.Laws as S′
-use Rattle.requests.proofs.step as step
-use Rattle.requests.proofs.step.Symbol as step-def
-use Rattle.requests.proofs.step.Symbol.{name as #step}
-use Rattle.requests.proofs.step.Met as step-thm
+use Rattle.refusals.proofs.Reply as R
+use Rattle.refusals.proofs.Reply.Laws as R′
+use Rattle.steps.proofs.Stepped as S
+use Rattle.steps.proofs.Stepped.Laws as S′
+use Rattle.steps.proofs.step as step
+use Rattle.steps.proofs.step.Symbol as step-def
+use Rattle.steps.proofs.step.Symbol.{name as #step}
+use Rattle.steps.proofs.step.Met as step-thm
 use Rattle.lent.proofs.Values.{t-val, q-val, l-val, r-val, s-val, t-typed, q-typed, l-typed, r-typed, s-typed}
 use Rattle.lent.proofs.step_in_place.Key.{name as #in-place}
 use Rattle.lent.proofs.step_in_place as f
@@ -180,4 +180,4 @@ step-in-place-spec 𝓤 H 𝓜 𝓖 𝓡 =
     entered 𝓤 H (tripleOf 𝓤 H (𝓖 .A) f.signature (f.spec 𝓤 H (𝓖 .A) (𝓜 .mem) (𝓡 .run)))
     (tables 𝓤 H 𝓜 𝓡 code.env .C) (tables 𝓤 H 𝓜 𝓡 code.env .Λ) #in-place code.function (code.unfolded 𝓤 H 𝓜 𝓡)
     (meets 𝓤 H (𝓖 .A) (givenOf 𝓤 H 𝓜 𝓖) (𝓜 .mem) (𝓡 .run) (tablesOf 𝓤 H 𝓜 (tables 𝓤 H 𝓜 𝓡 code.env))
-    (cited 𝓤 H (Step 𝓤 H (𝓖 .A) (𝓜 .mem) (𝓡 .run)) 𝓜 𝓡 code.env #step step-def.routine code.calls-requests·step (step-thm.met 𝓤 H 𝓜 𝓖 𝓡)))
+    (cited 𝓤 H (Step 𝓤 H (𝓖 .A) (𝓜 .mem) (𝓡 .run)) 𝓜 𝓡 code.env #step step-def.routine code.calls-steps·step (step-thm.met 𝓤 H 𝓜 𝓖 𝓡)))

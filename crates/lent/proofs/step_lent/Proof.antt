@@ -39,22 +39,22 @@ use denote.Triple.Walked.{says, Stays, stay-none, walkOf, AllGo, goes-none, Walk
 use denote.Triple.Clauses.{ensured, lasts}
 use denote.Exit.{yes}
 use Rattle.requests.specs.Asks.{askOf}
-use Rattle.requests.specs.Steps.{stepOf}
+use Rattle.steps.specs.Steps.{stepOf}
 use Rattle.table.specs.declared.Table.{Table}
 use Rattle.requests.specs.declared.Request.{Request}
 use Rattle.requests.specs.declared.PairList.{PairList}
-use Rattle.requests.specs.declared.Reply.{Reply}
-use Rattle.requests.specs.declared.Stepped.{Stepped}
+use Rattle.refusals.specs.declared.Reply.{Reply}
+use Rattle.steps.specs.declared.Stepped.{Stepped}
 use Rattle.table.proofs.Table as T
 use Rattle.table.proofs.Table.Laws as T′
 use Rattle.requests.proofs.Request as Q
 use Rattle.requests.proofs.Request.Laws as Q′
 use Rattle.requests.proofs.PairList as L
 use Rattle.requests.proofs.PairList.Laws as L′
-use Rattle.requests.proofs.Reply as R
-use Rattle.requests.proofs.Reply.Laws as R′
-use Rattle.requests.proofs.Stepped as S
-use Rattle.requests.proofs.Stepped.Laws as S′
+use Rattle.refusals.proofs.Reply as R
+use Rattle.refusals.proofs.Reply.Laws as R′
+use Rattle.steps.proofs.Stepped as S
+use Rattle.steps.proofs.Stepped.Laws as S′
 use Rattle.lent.proofs.Values.{t-val, q-val, l-val, r-val, s-val, t-typed, q-typed, l-typed, r-typed, s-typed}
 use Rattle.lent.proofs.Lies.{lies-in, lies-out}
 use Rattle.lent.proofs.step_in_place as g

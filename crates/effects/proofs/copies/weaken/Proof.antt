@@ -1,0 +1,20 @@
+-- `weaken` is the definition's weakening, by its one test. Assumes nothing.
+use mathlib.Core.Path.{refl, sym, _∙_}
+use Rattle.effects.specs.Effects.{weaken}
+use borrow.Author.Needs.{needs}
+use Rattle.effects.proofs.copies.weaken.Statement.{statement}
+use Rattle.effects.proofs.copies.weaken.Tie as tie
+
+need-met-requires : tie.Need-need-met-requires
+need-met-requires c κs = search needs
+
+returns : tie.Need-returns
+unfolding weaken
+returns c = rw (sym (c .before .need-met .ensures) ∙ c .if1 .taken, weaken) refl
+
+returns-2 : tie.Need-returns-2
+unfolding weaken
+returns-2 c = rw (sym (c .before .need-met .ensures) ∙ c .if1 .left, weaken) refl
+
+pub weaken-spec : {M : Type 1} → statement M
+weaken-spec = tie.close (tie.spec need-met-requires returns returns-2)

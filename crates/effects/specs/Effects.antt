@@ -1,0 +1,99 @@
+-- Document 01, "The eight requests", the column "Effect", read only where no refusal is met. Each effect is puts of
+-- records and slots, one after the other.
+use mathlib.Core.Bool.{Bool, true, false}
+use mathlib.Core.List.{List, [], _∷_}
+use Prim.Native.Nat.{ℕ, zero, suc}
+use lib.Dec.{ltb}
+use Rattle.mask.specs.Sets.{excluding, lessOf, unionOf}
+use Rattle.table.specs.declared.Capability.{Capability}
+use Rattle.table.specs.declared.Record.{Record}
+use Rattle.table.specs.declared.Table.{Table}
+use Rattle.table.specs.Cells.{emptySlot, recordAt, slotAt, stockAt, putRecord, putSlot, hasRd}
+use Rattle.requests.specs.declared.Pair.{Pair}
+use Rattle.refusals.specs.declared.Need.the-variants.{ReadOrWeak}
+use Rattle.requests.specs.Asks.{Ask, read, write, fetch, store, revoke, send, allocate, destroy, unknown}
+use Rattle.refusals.specs.Refusals.{needMet, targetOf, targetRecord, rightsOf}
+
+-- "Weakening gives wk if rd or wk was present; otherwise the copy is empty"
+unfoldable pub weaken : Capability → Capability
+weaken c = elim (needMet ReadOrWeak (c .rights)) [ true ↦ record { target = c .target; rights = 4 } | false ↦ emptySlot ]
+
+-- what a fetch through a slot with these rights takes: "weakened if rd is absent"
+unfoldable pub fetched : ℕ → Capability → Capability
+fetched rights c = elim (hasRd rights) [ true ↦ c | false ↦ weaken c ]
+
+-- what a destination slot holds after a copy, of what it held and the copy: "Copying an empty slot empties the destination". What
+-- it held plays no part; the name is where that rule stands
+unfoldable pub landed : Capability → Capability → Capability
+landed old copy = copy
+
+abbrev pub copyTo : Table → ℕ → ℕ → Capability → Table
+copyTo tb n j c = putSlot tb n j (landed (slotAt tb n j) c)
+
+-- "Pairs apply left to right; a later one to the same slot wins." The source is the actor's slots as they were
+unfoldable pub copyPairs : Table → (ℕ → Capability) → ℕ → List Pair → Table
+copyPairs tb source n [] = tb
+copyPairs tb source n (p ∷ ps) = copyPairs (copyTo tb n (p .to) (source (p .from))) source n ps
+
+-- "if reply is 0 to 7, that slot of the target gets (actor, tx); 8 means none"
+unfoldable pub answerSlot : Table → ℕ → ℕ → ℕ → Table
+answerSlot tb n reply actor =
+    elim (ltb reply 8) [ true ↦ putSlot tb n reply (record { target = actor; rights = 8 }) | false ↦ tb ]
+
+-- the first k slots of n emptied
+unfoldable pub clearSlots : Table → ℕ → ℕ → Table
+clearSlots tb n zero = tb
+clearSlots tb n (suc k) = putSlot (clearSlots tb n k) n k emptySlot
+
+abbrev pub withWord : Record → ℕ → Record
+withWord r w = record { status = r .status; kind = r .kind; word = w; stock = r .stock }
+
+abbrev pub withStock : Record → ℕ → Record
+withStock r s = record { status = r .status; kind = r .kind; word = r .word; stock = s }
+
+-- "n becomes alive with the kind, word 0, stock part"
+abbrev pub made : ℕ → ℕ → Record
+made kind part = record { status = 1; kind = kind; word = 0; stock = part }
+
+-- "target becomes dead, keeps its kind, loses word and slots"; its stock goes to the actor
+abbrev pub died : Record → Record
+died r = record { status = 2; kind = r .kind; word = 0; stock = 0 }
+
+-- the actor's slot i "gets (n, 15)"
+abbrev pub fullOver : ℕ → Capability
+fullOver n = record { target = n; rights = 15 }
+
+-- "n and part leave the actor's stock"
+unfoldable pub stockLess : ℕ → ℕ → ℕ → ℕ
+stockLess n part stock = lessOf (excluding n stock) part
+
+-- send, to the target g
+unfoldable pub sent : Table → ℕ → ℕ → ℕ → List Pair → ℕ → Table
+sent tb a g word list reply =
+    answerSlot (copyPairs (putRecord tb g (withWord (recordAt tb g) word)) (slotAt tb a) g list) g reply a
+
+-- allocate: the actor's stock, the new record, its slots, then the actor's slot
+unfoldable pub allocated : Table → ℕ → ℕ → ℕ → ℕ → ℕ → List Pair → Table
+allocated tb a n kind part i list =
+    putSlot
+    (copyPairs
+    (putRecord (putRecord tb a (withStock (recordAt tb a) (stockLess n part (stockAt tb a)))) n (made kind part))
+    (slotAt tb a) n list)
+    a i (fullOver n)
+
+-- destroy of g: its slots, its record, then the actor's stock, which "its stock joins"
+unfoldable pub destroyed : Table → ℕ → ℕ → Table
+destroyed tb a g =
+    putRecord (putRecord (clearSlots tb g 8) g (died (recordAt tb g))) a
+    (withStock (recordAt tb a) (unionOf (stockAt tb a) (stockAt tb g)))
+
+unfoldable pub effect : Table → Ask → Table
+effect tb (read a t) = putRecord tb a (withWord (recordAt tb a) (targetRecord tb a t .word))
+effect tb (write a t w) = putRecord tb (targetOf tb a t) (withWord (targetRecord tb a t) w)
+effect tb (fetch a t i j) = copyTo tb a j (fetched (rightsOf tb a t) (slotAt tb (targetOf tb a t) i))
+effect tb (store a t i j) = copyTo tb (targetOf tb a t) j (slotAt tb a i)
+effect tb (revoke a t j) = putSlot tb (targetOf tb a t) j emptySlot
+effect tb (send a t w l y) = sent tb a (targetOf tb a t) w l y
+effect tb (allocate a n k p i l) = allocated tb a n k p i l
+effect tb (destroy a t) = destroyed tb a (targetOf tb a t)
+effect tb (unknown c a) = tb

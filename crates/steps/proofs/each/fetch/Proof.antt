@@ -1,0 +1,102 @@
+-- `fetch` is its step: what looking saw decides, and the effect is one slot of the actor, put. By the laws of a request through a
+-- slot and what `fetched` and `landed` ensure. Assumes nothing.
+use mathlib.Core.Path.{refl, _∙_, ap}
+use native.Mathlib.Omega.{arith}
+use borrow.Author.Tests.{not-false}
+use Rattle.table.specs.Cells.{slotAt, putSlot}
+use Rattle.refusals.specs.declared.Reply.the-variants.{Done}
+use Rattle.effects.specs.Effects.{effect, copyTo, fetched, landed}
+use Rattle.refusals.proofs.Rows.{slots-placed}
+use Rattle.steps.proofs.Ways.{through-refused, through-done}
+use Rattle.steps.proofs.Uses.{fetch-uses}
+use borrow.Author.Needs.{needs}
+use Rattle.steps.proofs.each.fetch.Statement.{statement}
+use Rattle.steps.proofs.each.fetch.Tie as tie
+
+look-requires : tie.Need-look-requires
+look-requires c κs = search needs
+
+returns : tie.Need-returns
+returns c = through-refused (λ g. Done) (c .before .before .before .pre) fetch-uses (c .before .before .look .ensures) (c .if1 .taken)
+
+cast-g : tie.Need-cast-g
+cast-g c = search needs
+
+mul-fetched : tie.Need-mul-fetched
+mul-fetched c = search needs
+
+add-fetched : tie.Need-add-fetched
+add-fetched c = search needs
+
+mul-fetched-2 : tie.Need-mul-fetched-2
+mul-fetched-2 c = search needs
+
+element-copy-out-fetched : tie.Need-element-copy-out-fetched
+element-copy-out-fetched c = let v = c .before .before .before .look in
+    let d = not-false (v .result .done) (c .before .if1 .left) in
+    omega (arith, v .ensures .within d, slots-placed (c .before .before .before .before .args .i) (c .before .before .before .before .args .j) (v .ensures .fields d))
+
+fetched-requires : tie.Need-fetched-requires
+fetched-requires c κs = search needs
+
+mul-landed : tie.Need-mul-landed
+mul-landed c = search needs
+
+add-landed : tie.Need-add-landed
+add-landed c = search needs
+
+mul-landed-2 : tie.Need-mul-landed-2
+mul-landed-2 c = search needs
+
+element-copy-out-landed : tie.Need-element-copy-out-landed
+element-copy-out-landed c = let v = c .before .before .before .before .before .look in
+    let d = not-false (v .result .done) (c .before .before .before .if1 .left) in
+    omega (arith, v .ensures .actor d, slots-placed (c .before .before .before .before .before .before .args .i) (c .before .before .before .before .before .before .args .j) (v .ensures .fields d))
+
+landed-requires : tie.Need-landed-requires
+landed-requires c κs = search needs
+
+mul-new : tie.Need-mul-new
+mul-new c = search needs
+
+add-new : tie.Need-add-new
+add-new c = search needs
+
+mul-new-2 : tie.Need-mul-new-2
+mul-new-2 c = search needs
+
+element-set-from-new : tie.Need-element-set-from-new
+element-set-from-new c = let v = c .before .before .before .before .before .before .before .look in
+    let d = not-false (v .result .done) (c .before .before .before .before .before .if1 .left) in
+    omega (arith, v .ensures .actor d, slots-placed (c .before .before .before .before .before .before .before .before .args .i) (c .before .before .before .before .before .before .before .before .args .j) (v .ensures .fields d))
+
+returns-2 : tie.Need-returns-2
+unfolding effect
+returns-2 c = let s = c .before .before .before .before .before .before .before .before in
+    let a = s .args in
+    through-done (s .pre) fetch-uses (c .before .before .before .before .before .before .before .look .ensures) (c .before .before .before .before .before .if1 .left)
+    (λ g r. copyTo (a .t) (a .actor) (a .j) (fetched r (slotAt (a .t) g (a .i)))) refl
+    (ap (putSlot (a .t) (a .actor) (a .j)) (c .landed .ensures ∙ ap (landed (slotAt (a .t) (a .actor) (a .j))) (c .before .before .fetched .ensures)))
+
+pub fetch-spec : {M : Type 1} → statement M
+fetch-spec =
+    tie.close
+    (tie.spec
+    look-requires
+    returns
+    cast-g
+    mul-fetched
+    add-fetched
+    mul-fetched-2
+    element-copy-out-fetched
+    fetched-requires
+    mul-landed
+    add-landed
+    mul-landed-2
+    element-copy-out-landed
+    landed-requires
+    mul-new
+    add-new
+    mul-new-2
+    element-set-from-new
+    returns-2)

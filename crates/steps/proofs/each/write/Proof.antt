@@ -1,0 +1,37 @@
+-- `write` is its step: what looking saw decides, and the effect is one record, put. By the laws of a request through a slot.
+-- Assumes nothing.
+use mathlib.Core.Path.{refl}
+use borrow.Author.Tests.{not-false}
+use Rattle.table.specs.Cells.{recordAt, putRecord}
+use Rattle.refusals.specs.declared.Reply.the-variants.{Done}
+use Rattle.effects.specs.Effects.{effect, withWord}
+use Rattle.steps.proofs.Ways.{through-refused, through-done}
+use Rattle.steps.proofs.Uses.{write-uses}
+use borrow.Author.Needs.{needs}
+use Rattle.steps.proofs.each.write.Statement.{statement}
+use Rattle.steps.proofs.each.write.Tie as tie
+
+look-requires : tie.Need-look-requires
+look-requires c κs = search needs
+
+returns : tie.Need-returns
+returns c = through-refused (λ g. Done) (c .before .before .before .pre) write-uses (c .before .before .look .ensures) (c .if1 .taken)
+
+cast-g : tie.Need-cast-g
+cast-g c = search needs
+
+mul-u : tie.Need-mul-u
+mul-u c = search needs
+
+way-write-given-u : tie.Need-way-write-given-u
+way-write-given-u c = (c .before .before .before .look .ensures .within (not-false _ (c .before .if1 .left)), tt)
+
+returns-2 : tie.Need-returns-2
+unfolding effect
+returns-2 c = let s = c .before .before .before .before .before in
+    let a = s .args in
+    through-done (s .pre) write-uses (c .before .before .before .before .look .ensures) (c .before .before .if1 .left)
+    (λ g r. putRecord (a .t) g (withWord (recordAt (a .t) g) (a .word))) refl refl
+
+pub write-spec : {M : Type 1} → statement M
+write-spec = tie.close (tie.spec look-requires returns cast-g mul-u way-write-given-u returns-2)
