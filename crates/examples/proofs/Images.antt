@@ -11,7 +11,7 @@ use Rattle.access.specs.Closure.{grow, spread, only, reached, bothTakePart, hol
 use Rattle.confinement.specs.StandIn.{listed, lowestFrom, standIn, testNode, testHeld, boundOf}
 use Rattle.confinement.specs.Refusals.{badMembers, badEntry, badList, allListed, badHeld, memberHeld, verdictOf}
 use Rattle.confinement.specs.Tests.{testOf}
-use Rattle.image.specs.Numbers.{bytesOf, numberFrom}
+use Rattle.octets.specs.BigEndian.{bytesOf, numberFrom}
 use Rattle.image.specs.Layout.{storedAt, slotsBytes, storedBytes, recordsBytes, imageOf, partOf, recordFrom, slotFrom, tableFrom}
 use Rattle.image.specs.Images.{readRefusal, readOf, readNumber}
 use Rattle.report.specs.Input.{wrongLength, membersOf, entryIn, listOf}

@@ -14,7 +14,7 @@ use Rattle.steps.specs.Steps.{after, stepOf}
 use Rattle.access.specs.Relation.{Right, rd, wr, wk, tx, Can, tableHolding}
 use Rattle.confinement.specs.Refusals.{verdictNumber}
 use Rattle.confinement.specs.Tests.{testOf}
-use Rattle.image.specs.Numbers.{bytesOf}
+use Rattle.octets.specs.BigEndian.{bytesOf}
 use Rattle.image.specs.Layout.{imageOf}
 use Rattle.image.specs.Images.{readOf, readNumber}
 use Rattle.report.specs.Printed.{printedOf}

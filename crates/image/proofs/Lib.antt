@@ -1,6 +1,4 @@
 -- The laws that the proofs cite, and the theorems on round trips.
-pub mod Numbers
-pub mod Lists
 pub mod Places
 pub mod Load
 pub mod Store

@@ -12,12 +12,12 @@ use Rattle.table.specs.declared.Table.{Table}
 use Rattle.table.specs.Cells.{unbornTable, putRecord, putSlot, emptySlot}
 use Rattle.table.specs.Lists.{tabulate}
 use Rattle.image.specs.declared.Stored.{Stored}
-use Rattle.image.specs.Numbers.{numberOf}
-use Rattle.image.specs.Layout.{byteAt, partOf, recordFrom, slotFrom, storedFrom, tableFrom}
-use Rattle.image.proofs.Numbers.{Bytes, number-from, number-append, number-lt}
-use Rattle.image.proofs.Places.{bytes-take, bytes-drop}
+use Rattle.octets.specs.BigEndian.{byteAt, numberOf}
+use Rattle.image.specs.Layout.{partOf, recordFrom, slotFrom, storedFrom, tableFrom}
+use Rattle.octets.proofs.BigEndian.{Bytes, number-from, number-append, number-lt}
+use Rattle.octets.proofs.Parts.{bytes-take, bytes-drop}
 use Rattle.table.proofs.Lists.{getD-tabulate}
-use Rattle.image.proofs.Lists.{filled-none, filled-more, filled-all}
+use Rattle.octets.proofs.Lists.{filled-none, filled-more, filled-all}
 
 -- slot j of object n stands in part n
 pub slot-place : (bytes : List ℕ) (n j : ℕ) → j < 8 → slotFrom (partOf bytes ((n * 8 + j) / 8)) ((n * 8 + j) % 8) ≡ slotFrom (partOf bytes n) j

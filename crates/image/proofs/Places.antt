@@ -16,14 +16,12 @@ use Rattle.table.specs.declared.Table.{Table}
 use Rattle.table.specs.Cells.{emptySlot}
 use Rattle.table.specs.Lists.{tabulate}
 use Rattle.image.specs.declared.Stored.{Stored}
-use Rattle.image.specs.Numbers.{bytesOf, numberFrom, numberOf}
-use Rattle.image.specs.Layout.{imageLength, head, byteAt, placeOf, storedAt, slotsBytes, storedBytes, recordsBytes, imageOf, partOf, recordFrom, slotFrom, storedFrom}
-use Rattle.image.proofs.Numbers.{Bytes, length-bytes, number-written, number-next, bytes-read}
+use Rattle.octets.specs.BigEndian.{byteAt, bytesOf, numberFrom, numberOf}
+use Rattle.image.specs.Layout.{imageLength, head, placeOf, storedAt, slotsBytes, storedBytes, recordsBytes, imageOf, partOf, recordFrom, slotFrom, storedFrom}
+use Rattle.octets.proofs.Parts.{beside, number-two, bytes-drop, bytes-take, getD-after}
+use Rattle.octets.proofs.BigEndian.{Bytes, length-bytes, number-written, number-next, bytes-read}
 use Rattle.table.proofs.Lists.{getD-tabulate}
-use Rattle.image.proofs.Lists.{take-pair}
-
-pub beside : {a b c d : List ℕ} → a ≡ b → c ≡ d → a ++ c ≡ b ++ d
-beside e f = ap₂ (λ (x y : List ℕ). x ++ y) e f
+use Rattle.octets.proofs.Lists.{take-pair}
 
 -- lengths --------------------------------------------------------------------------
 pub length-slots : (slots : List Capability) (k : ℕ) → length (slotsBytes slots k) ≡ 2 * k
@@ -66,10 +64,6 @@ unfolding partOf
 length-part bytes k e h = simp (length-take, length-drop) (omega arith)
 
 -- the length field ---------------------------------------------------------------------
-pub number-two : (bytes : List ℕ) → 2 ≤ length bytes → numberOf (take 2 bytes) ≡ byteAt bytes 0 * 256 + byteAt bytes 1
-unfolding numberFrom
-number-two bytes h = number-next bytes 1 h ∙ ap (λ (x : ℕ). x * 256 + byteAt bytes 1) (number-next bytes 0 (omega arith) ∙ omega arith)
-
 -- the two bytes of the field say the length, and no other two do
 pub field-right : (bytes : List ℕ) → 2 ≤ length bytes → not (eqb (byteAt bytes 0) 7 && eqb (byteAt bytes 1) 0x83) ≡ false → numberOf (take 2 bytes) ≡ imageLength
 field-right bytes h e =
@@ -84,14 +78,6 @@ field-wrong bytes b h e q =
     clash (and-intro (eqb (byteAt bytes 0) 7) (eqb (byteAt bytes 1) 0x83) (eq-eqb (byteAt bytes 0) 7 (omega arith)) (eq-eqb (byteAt bytes 1) 0x83 (omega arith))) (not-true _ e)
 
 -- bytes of bytes -----------------------------------------------------------------------
-pub bytes-drop : (n : ℕ) (xs : List ℕ) → Bytes xs → Bytes (drop n xs)
-bytes-drop n xs h i = rw (getD-drop n xs i 0) (h (n + i))
-
-pub bytes-take : (n : ℕ) (xs : List ℕ) → Bytes xs → Bytes (take n xs)
-bytes-take n xs h i = byCases (ltb i n)
-    (λ e. rw (getD-take n xs i 0 (ltb-true i n e)) (h i))
-    (λ e. let g = ltb-false i n e in rw (List·getD-eq-default (take n xs) 0 {n = i} (simp length-take (omega arith))) (omega arith))
-
 pub bytes-part : (bytes : List ℕ) (k : ℕ) → Bytes bytes → Bytes (partOf bytes k)
 unfolding partOf
 bytes-part bytes k h = bytes-take 30 (drop (placeOf k) bytes) (bytes-drop (placeOf k) bytes h)
@@ -110,10 +96,6 @@ module _ (s : Stored) where
   record-stored hw hs = ap₂ (λ (w k : ℕ). record { status = s .object .status; kind = s .object .kind; word = w; stock = k })
       (ap numberOf (take-at (bytesOf 4 (s .object .word)) _ 4 (length-bytes 4 (s .object .word))) ∙ number-written 4 (s .object .word) hw)
       (ap numberOf (ap (take 8) after-word ∙ take-at (bytesOf 8 (s .object .stock)) _ 8 (length-bytes 8 (s .object .stock))) ∙ number-written 8 (s .object .stock) hs)
-
--- the element n of what stands after xs
-getD-after : (xs ys : List ℕ) (k n : ℕ) → length xs ≡ k → getD (xs ++ ys) (k + n) 0 ≡ getD ys n 0
-getD-after xs ys k n e = rw (← e) (getD-append-add xs ys n 0)
 
 -- slot j's two bytes
 record SlotBytes (slots : List Capability) (bytes : List ℕ) (j : ℕ) : Type 0 where

@@ -21,15 +21,16 @@ use Rattle.table.specs.Lists.{tabulate}
 use Rattle.table.specs.Soundness.{sound}
 use Rattle.image.specs.declared.Loaded.{Loaded}
 use Rattle.image.specs.declared.ReadReply.the-variants as R
-use Rattle.image.specs.Numbers.{numberFrom}
+use Rattle.octets.specs.BigEndian.{numberFrom}
 use Rattle.image.specs.Layout.{imageLength, head, storedAt, storedBytes, recordsBytes, imageOf, partOf, recordFrom, slotFrom, storedFrom, tableFrom}
 use Rattle.image.specs.Images.{readNumber, readRefusal, readOf, writtenOf}
-use Rattle.image.proofs.Numbers.{Bytes}
+use Rattle.octets.proofs.BigEndian.{Bytes}
 use Rattle.table.proofs.Lists.{length-tabulate, getD-tabulate}
-use Rattle.image.proofs.Lists.{tabulate-is, take-pair}
+use Rattle.octets.proofs.Lists.{tabulate-is, take-pair}
 use Rattle.image.proofs.Load.{slot-place}
 use Rattle.image.proofs.Replies.{Accepted, accepted, read-done, write-done, written-done}
-use Rattle.image.proofs.Places.{beside, length-image, number-two, part-image, length-part, bytes-part, record-stored, slot-stored, stored-part}
+use Rattle.octets.proofs.Parts.{beside, number-two}
+use Rattle.image.proofs.Places.{length-image, part-image, length-part, bytes-part, record-stored, slot-stored, stored-part}
 
 -- a byte list: what the slice of an image holds
 abbrev pub AreBytes : List ℕ → Type 0

@@ -12,11 +12,12 @@ use Rattle.table.specs.declared.Table.{Table}
 use Rattle.table.specs.Lists.{tabulate}
 use Rattle.table.specs.Cells.{recordAt, slotAt, emptySlot}
 use Rattle.image.specs.declared.Stored.{Stored}
-use Rattle.image.specs.Numbers.{bytesOf}
+use Rattle.octets.specs.BigEndian.{bytesOf}
 use Rattle.image.specs.Layout.{imageLength, head, storedAt, slotsBytes, storedBytes, recordsBytes, imageOf}
-use Rattle.image.proofs.Numbers.{length-bytes}
-use Rattle.image.proofs.Lists.{pair-more, lent-next}
-use Rattle.image.proofs.Places.{beside, length-records}
+use Rattle.octets.proofs.BigEndian.{length-bytes}
+use Rattle.octets.proofs.Lists.{pair-more, lent-next}
+use Rattle.octets.proofs.Parts.{beside}
+use Rattle.image.proofs.Places.{length-records}
 
 -- the loop that writes slots: the next two bytes
 pub slots-more : (slots : List Capability) (bytes : List ℕ) (j : ℕ) → 2 * j + 1 < length bytes → take (2 * j) bytes ≡ slotsBytes slots j

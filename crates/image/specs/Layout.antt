@@ -9,7 +9,7 @@ use Rattle.table.specs.declared.Table.{Table}
 use Rattle.table.specs.Lists.{tabulate}
 use Rattle.table.specs.Cells.{recordAt, slotAt, emptySlot}
 use Rattle.image.specs.declared.Stored.{Stored}
-use Rattle.image.specs.Numbers.{bytesOf, numberOf}
+use Rattle.octets.specs.BigEndian.{byteAt, bytesOf, numberOf}
 
 abbrev pub imageLength : ℕ
 imageLength = 1923
@@ -23,9 +23,6 @@ version = 1
 -- 07 83 01
 abbrev pub head : List ℕ
 head = 0x07 ∷ 0x83 ∷ 0x01 ∷ []
-
-abbrev pub byteAt : List ℕ → ℕ → ℕ
-byteAt bytes k = getD bytes k 0
 
 -- where object n's record begins: "3 + 30 times n"
 abbrev pub placeOf : ℕ → ℕ

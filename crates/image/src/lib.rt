@@ -7,7 +7,6 @@ ghost use mathlib.Core.List.{_++_};
 ghost use Prim.Native.Nat.{_<_, _≤_};
 ghost use lib.ListN.{length, take, drop};
 ghost use Rattle.table.specs.Lists.{tabulate};
-ghost use Rattle.image.specs.Numbers.{bytesOf, numberOf};
 ghost use Rattle.image.specs.Layout.{imageLength, slotsBytes, storedBytes, recordsBytes, slotFrom, storedFrom, tableFrom};
 ghost use Rattle.image.specs.Images.{refusedRead, readOf, writeRefusal, writtenOf};
 
@@ -41,40 +40,6 @@ pub struct Stored {
     pub slots: [Capability; 8],
 }
 
-// A byte as a number of 64 bits.
-fn wide(b: u8) -> u64
-    ensures { λ r. ⌜ r ≡ b ⌝ }
-{
-    b as u64
-}
-
-// The number that the bytes are, the most significant first.
-pub fn number_of(bytes: &[u8]) -> u64
-    requires { ⌜ length (now bytes) ≤ 8 ⌝ }
-    ensures { λ r. ⌜ r ≡ numberOf (now (bytes .entry)) ⌝ }
-{
-    let mut n: u64 = 0;
-    let mut i: usize = 0;
-    while i < bytes.len() {
-        n = n * 256 + wide(bytes[i]);
-        i = i + 1;
-    }
-    n
-}
-
-// Fills the bytes with the number, the most significant first.
-fn put_number(bytes: &mut [u8], n: u64)
-    ensures { λ _. ⌜ now (bytes .exit) ≡ bytesOf (length (now (bytes .entry))) n ⌝ }
-{
-    let mut rest = n;
-    let mut i = bytes.len();
-    while 0 < i {
-        i = i - 1;
-        bytes[i] = (rest % 256) as u8;
-        rest = rest / 256;
-    }
-}
-
 // The eight slots of a record's part.
 fn read_slots(part: &[u8]) -> [Capability; 8]
     requires { ⌜ length (now part) ≡ 30 ⌝ }
@@ -101,9 +66,9 @@ fn read_record(part: &[u8]) -> Stored
     requires { ⌜ length (now part) ≡ 30 ⌝ }
     ensures { λ r. ⌜ r ≡ storedFrom (now (part .entry)) ⌝ }
 {
-    let word = number_of(&part[2..6]) as u32;
-    let high = number_of(&part[6..10]);
-    let low = number_of(&part[10..14]);
+    let word = octets::number_of(&part[2..6]) as u32;
+    let high = octets::number_of(&part[6..10]);
+    let low = octets::number_of(&part[10..14]);
     let stock = high * 4294967296 + low;
     let slots = read_slots(part);
     let object = Record {
@@ -198,8 +163,8 @@ fn write_record(part: &mut [u8], stored: Stored)
     let slots = stored.slots;
     part[0] = object.status;
     part[1] = object.kind;
-    put_number(&mut part[2..6], object.word as u64);
-    put_number(&mut part[6..14], object.stock);
+    octets::put_number(&mut part[2..6], object.word as u64);
+    octets::put_number(&mut part[6..14], object.stock);
     write_slots(&mut part[14..30], slots);
 }
 

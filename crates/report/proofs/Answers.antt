@@ -11,7 +11,7 @@ use borrow.Author.Tests.{eq-eqb, ne-eqb}
 use Rattle.image.specs.declared.Loaded.{Loaded}
 use Rattle.image.specs.declared.ReadReply.{ReadReply}
 use Rattle.image.specs.declared.ReadReply.the-variants as R
-use Rattle.image.specs.Numbers.{numberOf}
+use Rattle.octets.specs.BigEndian.{numberOf}
 use Rattle.image.specs.Layout.{imageLength}
 use Rattle.image.specs.Images.{readOf, readNumber}
 use Rattle.confinement.specs.declared.EntryList.{EntryList}

@@ -17,7 +17,7 @@ use Rattle.table.specs.Cells.{emptySlot}
 use Rattle.table.specs.Lists.{tabulate}
 use Rattle.table.specs.Soundness.{sound}
 use Rattle.table.proofs.Lists.{length-tabulate}
-use Rattle.image.proofs.Lists.{tabulate-is}
+use Rattle.octets.proofs.Lists.{tabulate-is}
 use Rattle.access.specs.Answers.{bornOutside}
 use Rattle.confinement.specs.declared.EntryList.{EntryList}
 use Rattle.confinement.specs.StandIn.{entriesOf}

@@ -7,8 +7,8 @@ use lib.Dec.{eqb}
 use lib.ListN.{length, take, drop}
 use Rattle.table.specs.declared.Capability.{Capability}
 use Rattle.table.specs.Lists.{tabulate}
-use Rattle.image.specs.Numbers.{numberOf}
-use Rattle.image.specs.Layout.{imageLength, byteAt}
+use Rattle.octets.specs.BigEndian.{byteAt, numberOf}
+use Rattle.image.specs.Layout.{imageLength}
 
 -- members, count
 abbrev pub fixedLength : ℕ

@@ -94,7 +94,7 @@ fn put_loaded(out: &mut [u8], l: Loaded, input: &[u8]) -> usize
         return lines::put_refused(out, why);
     }
     let t = l.table;
-    let members = image::number_of(&input[1923..1931]);
+    let members = octets::number_of(&input[1923..1931]);
     let list = read_list(input);
     let tested = confinement::test(t, members, list);
     put_tested(out, tested)

@@ -9,13 +9,13 @@ use lib.Seq.{getD-take}
 use borrow.Author.Tests.{ne-eqb}
 use Rattle.table.specs.Lists.{tabulate}
 use Rattle.table.proofs.Lists.{length-tabulate}
-use Rattle.image.specs.Layout.{byteAt}
-use Rattle.image.proofs.Lists.{tabulate-is}
+use Rattle.octets.proofs.Lists.{tabulate-is}
 use Rattle.requests.specs.declared.Pair.{Pair}
 use Rattle.requests.specs.declared.PairList.{PairList}
 use Rattle.requests.specs.declared.Request.{Request}
 use Rattle.requests.specs.declared.Request.the-variants.{Read, Write, Fetch, Store, Revoke, Send, Allocate, Destroy, Unknown}
 use Rattle.requests.specs.Asks.{Ask, pairsOf, askOf}
+use Rattle.octets.specs.BigEndian.{byteAt}
 use Rattle.wire.specs.Wires.{codeIn, actorIn, listPlace, countIn, fitsOf, pairIn, listIn, wordIn, partIn, fieldsOf, askFrom}
 
 -- a pair that was read at its place of the list

@@ -10,9 +10,8 @@ use lib.Dec.{ltb, leb, eqb}
 use lib.ListN.{length}
 use borrow.Author.Tests.{leb-true, eqb-true, eq-eqb, ne-eqb}
 use Rattle.mask.proofs.Tests.{byCases, and-true, or-left, or-right}
-use Rattle.image.specs.Numbers.{numberOf}
-use Rattle.image.specs.Layout.{byteAt}
-use Rattle.image.proofs.Numbers.{Bytes, number-lt}
+use Rattle.octets.specs.BigEndian.{byteAt, numberOf}
+use Rattle.octets.proofs.BigEndian.{Bytes, number-lt}
 use Rattle.wire.specs.Wires.{codeIn, countIn, listPlace, sizeOf, listFits, fitsOf}
 
 -- a code's row of sizes, and a code with no row

@@ -6,8 +6,7 @@ use Prim.Native.Nat.{ℕ, _+_, _*_}
 use lib.Dec.{ltb, leb, eqb}
 use lib.ListN.{length, take, drop}
 use Rattle.table.specs.Lists.{tabulate}
-use Rattle.image.specs.Numbers.{numberOf}
-use Rattle.image.specs.Layout.{byteAt}
+use Rattle.octets.specs.BigEndian.{byteAt, numberOf}
 use Rattle.requests.specs.declared.Pair.{Pair}
 use Rattle.requests.specs.Asks.{Ask, read, write, fetch, store, revoke, send, allocate, destroy, unknown}
 

@@ -9,8 +9,7 @@ ghost use Prim.Native.Nat.{_≤_};
 ghost use lib.Dec.{eqb, leb};
 ghost use lib.ListN.{length, take};
 ghost use Rattle.table.specs.Lists.{tabulate};
-ghost use Rattle.image.specs.Numbers.{numberOf};
-ghost use Rattle.image.specs.Layout.{byteAt};
+ghost use Rattle.octets.specs.BigEndian.{byteAt, numberOf};
 ghost use Rattle.requests.specs.declared.PairList.{PairList};
 ghost use Rattle.requests.specs.Asks.{askOf, pairsOf};
 ghost use Rattle.wire.specs.Wires.{codeIn, countIn, listPlace, sizeOf, fitsOf, pairIn, listIn, wordIn, partIn, fieldsOf, askFrom};
@@ -19,16 +18,6 @@ ghost use Rattle.wire.specs.Wires.{codeIn, countIn, listPlace, sizeOf, f
 pub struct Asked {
     pub request: Request,
     pub list: PairList,
-}
-
-// The byte at a place, and 0 past the end.
-fn byte_at(bytes: &[u8], k: usize) -> u8
-    ensures { λ r. ⌜ r ≡ byteAt (now (bytes .entry)) k ⌝ }
-{
-    if k < bytes.len() {
-        return bytes[k];
-    }
-    0
 }
 
 // Where the list of a send or an allocate begins, with its count.
@@ -72,9 +61,9 @@ fn size_of(code: u8, count: u8) -> usize
 pub fn fits(bytes: &[u8]) -> bool
     ensures { λ r. ⌜ r ≡ fitsOf (now (bytes .entry)) ⌝ }
 {
-    let code = byte_at(bytes, 0);
+    let code = octets::byte_at(bytes, 0);
     let place = list_place(code);
-    let count = byte_at(bytes, place);
+    let count = octets::byte_at(bytes, place);
     let short = list_fits(code, count);
     let size = size_of(code, count);
     (0 < bytes.len()) & (short & (bytes.len() == size))
@@ -85,7 +74,7 @@ fn word_of(four: &[u8]) -> u32
     requires { ⌜ length (now four) ≤ 4 ⌝ }
     ensures { λ r. ⌜ r ≡ numberOf (now (four .entry)) ⌝ }
 {
-    image::number_of(four) as u32
+    octets::number_of(four) as u32
 }
 
 // The word: 4 bytes after the code, the actor and the slot.
@@ -101,7 +90,7 @@ fn part_in(bytes: &[u8]) -> u64
     requires { ⌜ 12 ≤ length (now bytes) ⌝ }
     ensures { λ r. ⌜ r ≡ partIn (now (bytes .entry)) ⌝ }
 {
-    image::number_of(&bytes[4..12])
+    octets::number_of(&bytes[4..12])
 }
 
 // The first n pairs of the list.
@@ -113,8 +102,8 @@ fn pairs_in(bytes: &[u8], place: usize, n: usize) -> [Pair; 4]
     let mut pairs = [none; 4];
     let mut k: usize = 0;
     while k < n {
-        let from = byte_at(bytes, place + 1 + 2 * k);
-        let to = byte_at(bytes, place + 2 + 2 * k);
+        let from = octets::byte_at(bytes, place + 1 + 2 * k);
+        let to = octets::byte_at(bytes, place + 2 + 2 * k);
         pairs[k] = Pair { from: from, to: to };
         k = k + 1;
     }
@@ -127,9 +116,9 @@ fn list_in(bytes: &[u8]) -> PairList
     ensures count { λ r. ⌜ r .count ≡ countIn (now (bytes .entry)) ⌝ }
     ensures pairs { λ r. ⌜ pairsOf r ≡ listIn (now (bytes .entry)) ⌝ }
 {
-    let code = byte_at(bytes, 0);
+    let code = octets::byte_at(bytes, 0);
     let place = list_place(code);
-    let count = byte_at(bytes, place);
+    let count = octets::byte_at(bytes, place);
     let pairs = pairs_in(bytes, place, count as usize);
     PairList {
         count: count,
@@ -142,11 +131,11 @@ fn send_in(bytes: &[u8]) -> Asked
     requires { ⌜ (fitsOf (now bytes) ≡ true) × (codeIn (now bytes) ≡ 6) ⌝ }
     ensures { λ r. ⌜ askOf (r .request) (r .list) ≡ fieldsOf (now (bytes .entry)) ⌝ }
 {
-    let actor = byte_at(bytes, 1);
-    let t = byte_at(bytes, 2);
+    let actor = octets::byte_at(bytes, 1);
+    let t = octets::byte_at(bytes, 2);
     let word = word_in(bytes);
     let list = list_in(bytes);
-    let reply = byte_at(bytes, 8 + 2 * (list.count as usize));
+    let reply = octets::byte_at(bytes, 8 + 2 * (list.count as usize));
     Asked {
         request: Request::Send {
             actor: actor,
@@ -163,11 +152,11 @@ fn allocate_in(bytes: &[u8]) -> Asked
     requires { ⌜ (fitsOf (now bytes) ≡ true) × (codeIn (now bytes) ≡ 7) ⌝ }
     ensures { λ r. ⌜ askOf (r .request) (r .list) ≡ fieldsOf (now (bytes .entry)) ⌝ }
 {
-    let actor = byte_at(bytes, 1);
-    let n = byte_at(bytes, 2);
-    let kind = byte_at(bytes, 3);
+    let actor = octets::byte_at(bytes, 1);
+    let n = octets::byte_at(bytes, 2);
+    let kind = octets::byte_at(bytes, 3);
     let part = part_in(bytes);
-    let i = byte_at(bytes, 12);
+    let i = octets::byte_at(bytes, 12);
     let list = list_in(bytes);
     Asked {
         request: Request::Allocate {
@@ -186,8 +175,8 @@ fn write_in(bytes: &[u8]) -> Request
     requires { ⌜ (fitsOf (now bytes) ≡ true) × (codeIn (now bytes) ≡ 2) ⌝ }
     ensures { λ r. ⌜ ((l : PairList) → askOf r l ≡ fieldsOf (now (bytes .entry))) ⌝ }
 {
-    let actor = byte_at(bytes, 1);
-    let t = byte_at(bytes, 2);
+    let actor = octets::byte_at(bytes, 1);
+    let t = octets::byte_at(bytes, 2);
     let word = word_in(bytes);
     Request::Write {
         actor: actor,
@@ -201,10 +190,10 @@ fn plain_in(bytes: &[u8], code: u8) -> Request
     requires { ⌜ (codeIn (now bytes) ≡ code) × (code ≢ 2) × (code ≢ 6) × (code ≢ 7) ⌝ }
     ensures { λ r. ⌜ ((l : PairList) → askOf r l ≡ fieldsOf (now (bytes .entry))) ⌝ }
 {
-    let actor = byte_at(bytes, 1);
-    let t = byte_at(bytes, 2);
-    let third = byte_at(bytes, 3);
-    let fourth = byte_at(bytes, 4);
+    let actor = octets::byte_at(bytes, 1);
+    let t = octets::byte_at(bytes, 2);
+    let third = octets::byte_at(bytes, 3);
+    let fourth = octets::byte_at(bytes, 4);
     match code {
         1 => Request::Read { actor: actor, t: t },
         3 => Request::Fetch {
@@ -251,9 +240,9 @@ fn alone(request: Request) -> Asked
 pub fn request_in(bytes: &[u8]) -> Asked
     ensures { λ r. ⌜ askOf (r .request) (r .list) ≡ askFrom (now (bytes .entry)) ⌝ }
 {
-    let code = byte_at(bytes, 0);
+    let code = octets::byte_at(bytes, 0);
     if !fits(bytes) {
-        let actor = byte_at(bytes, 1);
+        let actor = octets::byte_at(bytes, 1);
         return alone(Request::Unknown {
             code: code,
             actor: actor,

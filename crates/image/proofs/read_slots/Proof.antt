@@ -5,7 +5,7 @@ use native.Mathlib.Omega.{arith}
 use lib.ListN.{length, take, length-set}
 use Rattle.table.specs.Lists.{tabulate}
 use Rattle.image.specs.Layout.{slotFrom}
-use Rattle.image.proofs.Lists.{filled-none, filled-more, filled-all}
+use Rattle.octets.proofs.Lists.{filled-none, filled-more, filled-all}
 use borrow.Author.Needs.{needs}
 use Rattle.image.proofs.read_slots.Statement.{statement}
 use Rattle.image.proofs.read_slots.Tie as tie

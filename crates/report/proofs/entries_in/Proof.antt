@@ -4,7 +4,7 @@ use Prim.Native.Nat.{_≤_, _-_}
 use native.Mathlib.Omega.{arith}
 use lib.ListN.{length, take, length-set}
 use Rattle.table.specs.Lists.{tabulate}
-use Rattle.image.proofs.Lists.{filled-none, filled-more}
+use Rattle.octets.proofs.Lists.{filled-none, filled-more}
 use Rattle.report.specs.Input.{entryIn}
 use borrow.Author.Needs.{needs}
 use Rattle.report.proofs.entries_in.Statement.{statement}

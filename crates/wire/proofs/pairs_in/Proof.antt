@@ -4,7 +4,7 @@ use Prim.Native.Nat.{_≤_, _-_}
 use native.Mathlib.Omega.{arith}
 use lib.ListN.{length, take, length-set}
 use Rattle.table.specs.Lists.{tabulate}
-use Rattle.image.proofs.Lists.{filled-none, filled-more}
+use Rattle.octets.proofs.Lists.{filled-none, filled-more}
 use Rattle.wire.specs.Wires.{codeIn, pairIn}
 use Rattle.wire.proofs.Sizes.{place-small}
 use Rattle.wire.proofs.Fields.{pair-made}

@@ -9,7 +9,7 @@ use native.Mathlib.Omega.{arith}
 use lib.ListN.{length, getD, set, take, drop, length-set}
 use lib.Seq.{take-suc, drop-length, drop-cons, drop-set-lt, getD-set-same}
 use lib.Arith.{digits-lt, digits-div, digits-mod, mod-mul}
-use Rattle.image.specs.Numbers.{bytesOf, numberFrom, numberOf}
+use Rattle.octets.specs.BigEndian.{bytesOf, numberFrom, numberOf}
 
 -- every element is a byte; what lies past the end reads as 0
 abbrev pub Bytes : List ℕ → Type 0

@@ -5,11 +5,11 @@ use Prim.Native.Nat.{ℕ, _≤_, _<_, _+_, _-_, _*_, _^_}
 use native.Mathlib.Omega.{arith}
 use lib.ListN.{length, take}
 use lib.Seq.{take-all}
-use Rattle.image.specs.Numbers.{numberOf, numberFrom}
-use Rattle.image.proofs.Numbers.{number-next, number-fits, power-next}
+use Rattle.octets.specs.BigEndian.{numberOf, numberFrom}
+use Rattle.octets.proofs.BigEndian.{number-next, number-fits, power-next}
 use borrow.Author.Needs.{needs}
-use Rattle.image.proofs.number_of.Statement.{statement}
-use Rattle.image.proofs.number_of.Tie as tie
+use Rattle.octets.proofs.number_of.Statement.{statement}
+use Rattle.octets.proofs.number_of.Tie as tie
 
 abbrev Inv-loop : tie.InvT-loop
 Inv-loop bytes n₀ i₀ n i = (i ≤ length bytes) × (n ≡ numberOf (take i bytes)) × (n < 256 ^ i)

@@ -1,6 +1,11 @@
--- "Big-endian": a number as bytes, the most significant first.
+-- Bytes as lists of numbers. "Big-endian": a number as bytes, the most significant first.
 use mathlib.Core.List.{List, [], _∷_}
 use Prim.Native.Nat.{ℕ, zero, suc, _+_, _*_, _/_, _%_, _^_}
+use lib.ListN.{getD}
+
+-- the byte at a place, and 0 past the end
+abbrev pub byteAt : List ℕ → ℕ → ℕ
+byteAt bytes k = getD bytes k 0
 
 -- the number's lowest `size` bytes
 unfoldable pub bytesOf : ℕ → ℕ → List ℕ

@@ -1,10 +1,10 @@
 -- `image::put_number` meets its contract. The loop's invariant, `Put`: from `i` on stand the number's lowest bytes, and `rest` is
 -- what is above them. Assumes nothing.
 use lib.ListN.{length}
-use Rattle.image.proofs.Numbers.{Put, put-none, put-more, put-all}
+use Rattle.octets.proofs.BigEndian.{Put, put-none, put-more, put-all}
 use borrow.Author.Needs.{needs}
-use Rattle.image.proofs.put_number.Statement.{statement}
-use Rattle.image.proofs.put_number.Tie as tie
+use Rattle.octets.proofs.put_number.Statement.{statement}
+use Rattle.octets.proofs.put_number.Tie as tie
 
 abbrev Inv-loop : tie.InvT-loop
 Inv-loop bytes₀ n rest₀ i₀ bytes rest i = Put n (length bytes₀) bytes rest i
