@@ -4,3 +4,4 @@ pub mod Load
 pub mod Store
 pub mod Replies
 pub mod RoundTrip
+pub mod Typed

@@ -2,3 +2,4 @@
 pub mod Refused
 pub mod Ways
 pub mod Uses
+pub mod Kept

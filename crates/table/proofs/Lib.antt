@@ -3,5 +3,6 @@ pub mod Cells
 pub mod Facts
 pub mod Scan
 pub mod Glances
+pub mod Places
 pub mod Value
 pub mod Unborn

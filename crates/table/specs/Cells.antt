@@ -78,8 +78,8 @@ putRecord t n r = record { records = set (t .records) n r; slots = t .slots }
 abbrev pub putSlot : Table → ℕ → ℕ → Capability → Table
 putSlot t n j c = record { records = t .records; slots = set (t .slots) (n * 8 + j) c }
 
--- a value of the table type: 64 records, 512 slots, every field within its bits.
--- Whoever has the value has this; the record type alone does not say it
+-- a value of the table type: 64 records, 512 slots, every field within its bits. The record type alone does not say it.
+-- Whoever owns the value has it: `value-is-table` of proofs/Value.antt
 pub record IsTable (t : Table) : Type 0 where
   pub records : length (t .records) ≡ 64
   pub slots : length (t .slots) ≡ 512

@@ -1,0 +1,47 @@
+-- A table that is read from bytes is a table value, whatever the bytes say: each field is a number of as many bytes as its bits
+-- hold. So the table that reading returns is one, refused or not. Assumes nothing.
+use mathlib.Core.List.{List}
+use Prim.Native.Nat.{ℕ, _+_, _*_, _/_, _%_, _^_, _<_}
+use native.Mathlib.Nat.{pow-le-pow-right, lt-of-lt-of-le}
+use native.Mathlib.Omega.{arith}
+use lib.Dec.{eqb}
+use lib.ListN.{length, getD, take, drop, length-take}
+use Rattle.mask.proofs.Tests.{byCases}
+use Rattle.table.specs.Cells.{IsTable, emptySlot, unbornRecord}
+use Rattle.table.proofs.Lists.{length-tabulate}
+use Rattle.table.proofs.Places.{at-tabulate}
+use Rattle.table.proofs.Value.{RecordValue, SlotValue, record-value, slot-value, unborn-value, empty-value, values-are-table, unborn-is-table}
+use Rattle.octets.specs.BigEndian.{numberOf}
+use Rattle.image.specs.Layout.{partOf, recordFrom, slotFrom, tableFrom}
+use Rattle.image.specs.Images.{readNumber, readRefusal, readOf}
+use Rattle.octets.proofs.BigEndian.{Bytes, number-lt}
+use Rattle.octets.proofs.Parts.{bytes-take, bytes-drop}
+use Rattle.image.proofs.Places.{bytes-part}
+
+-- at most k bytes
+number-take : (k : ℕ) (bs : List ℕ) → Bytes bs → numberOf (take k bs) < 256 ^ k
+number-take k bs b =
+    lt-of-lt-of-le (number-lt (take k bs) (bytes-take k bs b))
+    (pow-le-pow-right {n = 256} (omega arith) {i = length (take k bs)} {j = k} (simp length-take (omega arith)))
+
+record-typed : (part : List ℕ) → Bytes part → RecordValue (recordFrom part)
+unfolding recordFrom
+record-typed part b =
+    record-value (recordFrom part) (b 0) (b 1)
+    (number-take 4 (drop 2 part) (bytes-drop 2 part b)) (number-take 8 (drop 6 part) (bytes-drop 6 part b))
+
+slot-typed : (part : List ℕ) (j : ℕ) → Bytes part → SlotValue (slotFrom part j)
+unfolding slotFrom
+slot-typed part j b = slot-value (slotFrom part j) (b (14 + 2 * j)) (b (15 + 2 * j))
+
+pub image-is-table : (bytes : List ℕ) → ((k : ℕ) → getD bytes k 0 < 2 ^ 8) → IsTable (tableFrom bytes)
+unfolding tableFrom
+image-is-table bytes b = values-are-table (tableFrom bytes) (length-tabulate 64 _) (length-tabulate 512 _)
+    (λ n. at-tabulate RecordValue unbornRecord 64 _ n (record-typed (partOf bytes n) (bytes-part bytes n b)) unborn-value)
+    (λ k. at-tabulate SlotValue emptySlot 512 _ k (slot-typed (partOf bytes (k / 8)) (k % 8) (bytes-part bytes (k / 8) b)) empty-value)
+
+pub read-is-table : (bytes : List ℕ) → ((k : ℕ) → getD bytes k 0 < 2 ^ 8) → IsTable (readOf bytes .table)
+unfolding readOf
+read-is-table bytes b = byCases (eqb (readNumber (readRefusal bytes)) 0)
+    (λ e. rw (e, readOf) (image-is-table bytes b))
+    (λ e. rw (e, readOf) unborn-is-table)
