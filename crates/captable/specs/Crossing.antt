@@ -1,13 +1,7 @@
--- What crosses to C and Rust: every answer by document 01's number, 0 for done, with what goes with it; lists as bytes.
-use mathlib.Core.Bool.{true, false, cond}
-use mathlib.Core.List.{List}
-use Prim.Native.Nat.{ℕ, _/_, _%_}
-use lib.Dec.{eqb}
-use lib.ListN.{length, replicate}
-use Rattle.table.specs.declared.Capability.{Capability}
+-- What crosses to C and Rust: every answer by document 01's number, 0 for done, with what goes with it.
+use mathlib.Core.Bool.{cond}
+use Prim.Native.Nat.{ℕ}
 use Rattle.table.specs.declared.Table.{Table}
-use Rattle.table.specs.Cells.{emptySlot}
-use Rattle.table.specs.Lists.{tabulate}
 use Rattle.table.specs.Soundness.{sound}
 use Rattle.steps.specs.declared.Stepped.{Stepped}
 use Rattle.refusals.specs.Replies.{number}
@@ -17,7 +11,6 @@ use Rattle.confinement.specs.declared.Tested.{Tested}
 use Rattle.confinement.specs.Refusals.{verdictNumber}
 use Rattle.image.specs.declared.Loaded.{Loaded}
 use Rattle.image.specs.Images.{readNumber}
-use Rattle.report.specs.Input.{entryIn}
 use Rattle.captable.specs.declared.Outcome.{Outcome}
 use Rattle.captable.specs.declared.Relation.{Relation}
 use Rattle.captable.specs.declared.Finding.{Finding}
@@ -36,8 +29,3 @@ found r = record { bound = r .bound; number = verdictNumber (r .verdict) }
 
 abbrev pub loaded : Loaded → Outcome
 loaded l = record { table = l .table; number = readNumber (l .reply) }
-
--- the list that bytes are: target and rights of each entry in turn. Where a byte is left over they are no list, and count as one that
--- is too long
-unfoldable pub listIn : List ℕ → List Capability
-listIn bytes = elim (eqb (length bytes % 2) 0) [ true ↦ tabulate (length bytes / 2) (entryIn bytes) | false ↦ replicate 9 emptySlot ]

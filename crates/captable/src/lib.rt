@@ -1,22 +1,19 @@
 // The proved table as the case's firmware links it from C or Rust. Everything that crosses is a number, a slice of bytes (its
 // pointer, then its length) or a struct of document 01's fields. The step has its table lent; the other calls take the table by
 // value, so that nothing can change it between their checks and their answer. Every answer is document 01's number, 0 for done.
-use confinement::EntryList;
-use table::Capability;
 use table::Table;
 ghost use mathlib.Core.Path.{_≡_};
 ghost use mathlib.Core.List.{_++_};
-ghost use Prim.Native.Nat.{_≤_, _<_};
 ghost use lib.ListN.{length, drop};
 ghost use Rattle.refusals.specs.Replies.{number as replyNumber};
 ghost use Rattle.steps.specs.Steps.{stepOf};
 ghost use Rattle.access.specs.Answers.{accessOf};
-ghost use Rattle.confinement.specs.StandIn.{entriesOf};
 ghost use Rattle.confinement.specs.Tests.{testOf};
 ghost use Rattle.image.specs.Images.{writeNumber, readOf, writeRefusal, writtenOf};
 ghost use Rattle.report.specs.Printed.{printedOf};
 ghost use Rattle.wire.specs.Wires.{askFrom};
-ghost use Rattle.captable.specs.Crossing.{soundNumber, stepped, related, found, loaded, listIn};
+ghost use Rattle.wire.specs.Entries.{entriesIn};
+ghost use Rattle.captable.specs.Crossing.{soundNumber, stepped, related, found, loaded};
 
 // A table that a step or a reading of an image gives, and its number. The table stands first, so that no copy of it has to be moved.
 #[repr(C)]
@@ -57,7 +54,7 @@ pub extern "C" fn captable_sound(table: Table) -> u8
 pub extern "C" fn captable_stepped(table: Table, request: &[u8]) -> Outcome
     ensures { λ r. ⌜ r ≡ stepped (stepOf table (askFrom (now (request .entry)))) ⌝ }
 {
-    let asked = wire::request_in(request);
+    let asked = wire::reading::request_in(request);
     let what = asked.request;
     let list = asked.list;
     let done = steps::step(table, what, list);
@@ -97,45 +94,12 @@ pub extern "C" fn captable_access(table: Table) -> Relation
     }
 }
 
-// A list that is too long.
-fn nine_entries() -> EntryList
-    ensures { λ r. ⌜ r .count ≡ 9 ⌝ }
-{
-    let nothing = Capability {
-        target: 0,
-        rights: 0,
-    };
-    EntryList {
-        count: 9,
-        entries: [nothing; 8],
-    }
-}
-
-// The list of bytes, of which eight entries are held; one that is too long, or no list, is held by its count alone.
-fn list_of(bytes: &[u8]) -> EntryList
-    ensures long { λ r. ⌜ (8 < r .count → 8 < length (listIn (now (bytes .entry)))) ⌝ }
-    ensures entries { λ r. ⌜ (r .count ≤ 8 → entriesOf r ≡ listIn (now (bytes .entry))) ⌝ }
-{
-    let n = bytes.len() / 2;
-    if bytes.len() % 2 != 0 {
-        return nine_entries();
-    }
-    if 8 < n {
-        return nine_entries();
-    }
-    let entries = report::entries_in(bytes, n);
-    EntryList {
-        count: n as u8,
-        entries: entries,
-    }
-}
-
 // The confinement test of a set of members and a list, two bytes for each entry: target, rights.
 #[no_mangle]
 pub extern "C" fn captable_test(table: Table, members: u64, list: &[u8]) -> Finding
-    ensures { λ r. ⌜ r ≡ found (testOf table members (listIn (now (list .entry)))) ⌝ }
+    ensures { λ r. ⌜ r ≡ found (testOf table members (entriesIn (now (list .entry)))) ⌝ }
 {
-    let entries = list_of(list);
+    let entries = wire::entries::list_of(list);
     let tested = confinement::test(table, members, entries);
     let verdict = tested.verdict;
     let number = numbers::of_verdict(verdict);

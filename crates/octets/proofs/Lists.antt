@@ -15,6 +15,12 @@ module _ {A : Type 0} where
   pub tabulate-is : (n : ℕ) (f : ℕ → A) (d : A) (xs : List A) → length xs ≡ n → ((k : ℕ) → k < n → f k ≡ getD xs k d) → tabulate n f ≡ xs
   tabulate-is n f d xs e h = sym (as-tabulate n f d xs e (λ k g. sym (h k g)))
 
+  -- a place within the list reads the same, whatever is said of those past its end
+  pub getD-within : (xs : List A) (k : ℕ) (d e : A) → k < length xs → getD xs k d ≡ getD xs k e
+  getD-within [] k d e h = absurd (omega arith)
+  getD-within (x ∷ xs) zero d e h = refl
+  getD-within (x ∷ xs) (suc k) d e h = getD-within xs k d e (omega arith)
+
   -- a loop that stores the value of each place: nothing yet, one more, all
   pub filled-none : (f : ℕ → A) → [] ≡ tabulate 0 f
   unfolding tabulate

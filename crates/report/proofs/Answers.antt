@@ -1,13 +1,15 @@
--- What is printed, by the ways that the code goes: each definition of Printed.antt at the branch that was taken. Assumes nothing.
-use mathlib.Core.Path.{_≡_, refl, sym, _∙_, ap}
+-- What is decided, by the ways that the code goes: each definition of Decisions.antt at the branch that was taken; every number that is
+-- decided has at most two digits; and what is printed of a decision. Assumes nothing.
+use mathlib.Core.Path.{_≡_, refl, sym, _∙_, ap, ap₂}
 use mathlib.Core.Logic.{_≢_}
 use mathlib.Core.Bool.{true, false}
 use mathlib.Core.List.{List}
-use Prim.Native.Nat.{ℕ, _≤_, _<_}
+use Prim.Native.Nat.{ℕ, _<_}
 use native.Mathlib.Omega.{arith}
 use lib.Dec.{eqb}
 use lib.ListN.{take, drop}
 use borrow.Author.Tests.{eq-eqb, ne-eqb}
+use Rattle.mask.proofs.Tests.{byCases}
 use Rattle.image.specs.declared.Loaded.{Loaded}
 use Rattle.image.specs.declared.ReadReply.{ReadReply}
 use Rattle.image.specs.declared.ReadReply.the-variants as R
@@ -21,12 +23,45 @@ use Rattle.confinement.specs.declared.Verdict.the-variants.{Accepted, TableUnso
 use Rattle.confinement.specs.StandIn.{entriesOf}
 use Rattle.confinement.specs.Refusals.{verdictNumber}
 use Rattle.confinement.specs.Tests.{testOf}
-use Rattle.report.specs.Input.{countOf, wrongLength, imagePart, membersOf, listOf}
-use Rattle.report.specs.Printed.{refusedLine, acceptedLines, testLines, loadedLines, printedOf}
-use Rattle.report.proofs.Inputs.{test-held, list-length}
+use Rattle.wire.specs.Entries.{heldEntries}
+use Rattle.wire.proofs.Lists.{test-bytes}
+use Rattle.report.specs.declared.Decision.{Decision}
+use Rattle.report.specs.Input.{fixedLength, wrongLength, imagePart, membersOf, listOf}
+use Rattle.report.specs.Decisions.{refusedBy, testDecision, loadedDecision, decisionOf}
+use Rattle.report.specs.Printed.{refusedLine, acceptedLines, linesOf}
 
--- every number has at most two digits
-pub verdict-small : (v : Verdict) → verdictNumber v < 100
+-- what is decided --------------------------------------------------------------------------
+-- an image that was read, or not
+module _ (l : Loaded) (input : List ℕ) (why : ℕ) (e : why ≡ readNumber (l .reply)) where
+  pub loaded-refused : why ≢ 0 → refusedBy why ≡ loadedDecision l input
+  unfolding loadedDecision
+  loaded-refused n = rw (ap (λ (x : ℕ). eqb x 0) (sym e) ∙ ne-eqb why 0 n, loadedDecision) (ap refusedBy e)
+
+  loaded-accepted : why ≡ 0 → testDecision (testOf (l .table) (membersOf input) (listOf input)) ≡ loadedDecision l input
+  unfolding loadedDecision
+  loaded-accepted z = rw (ap (λ (x : ℕ). eqb x 0) (sym e) ∙ eq-eqb why 0 z, loadedDecision) refl
+
+  pub loaded-tested : why ≡ 0 → (members : ℕ) → members ≡ numberOf (take 8 (drop imageLength input)) → (list : EntryList) → list ≡ heldEntries (drop fixedLength input)
+      → (r : Tested) → r ≡ testOf (l .table) members (entriesOf list) → (n : ℕ) → n ≡ verdictNumber (r .verdict)
+      → _≡_ {A = Decision} (record { number = n; bound = r .bound }) (loadedDecision l input)
+  unfolding membersOf listOf
+  loaded-tested z members m list c r f n g =
+      ap {B = Decision} (λ (x : ℕ). record { number = x; bound = r .bound }) g
+      ∙ ap testDecision (f ∙ ap₂ (λ (x : ℕ) (y : EntryList). testOf (l .table) x (entriesOf y)) m c ∙ test-bytes (l .table) (membersOf input) (drop fixedLength input))
+      ∙ loaded-accepted z
+
+-- any input
+module _ (input : List ℕ) where
+  pub decided-refused : wrongLength input ≡ true → refusedBy 17 ≡ decisionOf input
+  unfolding decisionOf
+  decided-refused e = rw (e, decisionOf) refl
+
+  pub decided-loaded : wrongLength input ≡ false → (l : Loaded) → l ≡ readOf (imagePart input) → loadedDecision l input ≡ decisionOf input
+  unfolding decisionOf
+  decided-loaded e l f = rw (e, decisionOf) (ap (λ (x : Loaded). loadedDecision x input) f)
+
+-- every number has at most two digits -------------------------------------------------
+verdict-small : (v : Verdict) → verdictNumber v < 100
 verdict-small Accepted = omega arith
 verdict-small TableUnsound = omega arith
 verdict-small MembersInvalid = omega arith
@@ -34,42 +69,30 @@ verdict-small ListInvalid = omega arith
 verdict-small RightUnlisted = omega arith
 verdict-small MemberHeld = omega arith
 
-pub read-small : (r : ReadReply) → readNumber r < 100
+read-small : (r : ReadReply) → readNumber r < 100
 read-small R.Done = omega arith
 read-small R.TableUnsound = omega arith
 read-small R.LengthWrong = omega arith
 read-small R.VersionWrong = omega arith
 
--- a test's result
-module _ (r : Tested) (why : ℕ) (e : why ≡ verdictNumber (r .verdict)) where
-  pub tested-refused : why ≢ 0 → testLines r ≡ refusedLine why
-  unfolding testLines
-  tested-refused n = rw (ap (λ (x : ℕ). eqb x 0) (sym e) ∙ ne-eqb why 0 n, testLines) (ap refusedLine (sym e))
+loaded-small : (l : Loaded) (input : List ℕ) → loadedDecision l input .number < 100
+unfolding loadedDecision
+loaded-small l input = byCases (eqb (readNumber (l .reply)) 0)
+    (λ e. rw (e, loadedDecision) (verdict-small (testOf (l .table) (membersOf input) (listOf input) .verdict)))
+    (λ e. rw (e, loadedDecision) (read-small (l .reply)))
 
-  pub tested-accepted : why ≡ 0 → testLines r ≡ acceptedLines (r .bound)
-  unfolding testLines
-  tested-accepted z = rw (← e, eq-eqb why 0 z, testLines) refl
+pub decision-small : (input : List ℕ) → decisionOf input .number < 100
+unfolding decisionOf
+decision-small input = byCases (wrongLength input)
+    (λ e. rw (e, decisionOf) (omega arith))
+    (λ e. rw (e, decisionOf) (loaded-small (readOf (imagePart input)) input))
 
--- an image that was read, or not
-module _ (l : Loaded) (input : List ℕ) (why : ℕ) (e : why ≡ readNumber (l .reply)) where
-  pub loaded-refused : why ≢ 0 → loadedLines l input ≡ refusedLine why
-  unfolding loadedLines
-  loaded-refused n = rw (ap (λ (x : ℕ). eqb x 0) (sym e) ∙ ne-eqb why 0 n, loadedLines) (ap refusedLine (sym e))
+-- what is printed -----------------------------------------------------------------------------
+module _ (d : Decision) where
+  pub lines-refused : d .number ≢ 0 → linesOf d ≡ refusedLine (d .number)
+  unfolding linesOf
+  lines-refused n = rw (ne-eqb (d .number) 0 n, linesOf) refl
 
-  pub loaded-tested : why ≡ 0 → (members : ℕ) → members ≡ numberOf (take 8 (drop imageLength input))
-      → (list : EntryList) → list .count ≡ countOf input → (list .count ≤ 8 → entriesOf list ≡ listOf input)
-      → (r : Tested) → r ≡ testOf (l .table) members (entriesOf list) → loadedLines l input ≡ testLines r
-  unfolding loadedLines membersOf
-  loaded-tested z members m list c same r f =
-      let s = f ∙ test-held (l .table) members list (listOf input) (λ h. omega (arith, list-length input)) same ∙ ap (λ (x : ℕ). testOf (l .table) x (listOf input)) m in
-      rw (← e, eq-eqb why 0 z, loadedLines) (ap testLines (sym s))
-
--- any input
-module _ (input : List ℕ) where
-  pub printed-refused : wrongLength input ≡ true → printedOf input ≡ refusedLine 17
-  unfolding printedOf
-  printed-refused e = rw (e, printedOf) refl
-
-  pub printed-loaded : wrongLength input ≡ false → (l : Loaded) → l ≡ readOf (imagePart input) → printedOf input ≡ loadedLines l input
-  unfolding printedOf
-  printed-loaded e l f = rw (e, printedOf) (ap (λ (x : Loaded). loadedLines x input) (sym f))
+  pub lines-accepted : d .number ≡ 0 → linesOf d ≡ acceptedLines (d .bound)
+  unfolding linesOf
+  lines-accepted z = rw (eq-eqb (d .number) 0 z, linesOf) refl

@@ -6,9 +6,9 @@ use Prim.Native.Nat.{ℕ, _+_, _*_}
 use lib.Dec.{eqb}
 use lib.ListN.{length, take, drop}
 use Rattle.table.specs.declared.Capability.{Capability}
-use Rattle.table.specs.Lists.{tabulate}
 use Rattle.octets.specs.BigEndian.{byteAt, numberOf}
 use Rattle.image.specs.Layout.{imageLength}
+use Rattle.wire.specs.Entries.{entriesIn}
 
 -- members, count
 abbrev pub fixedLength : ℕ
@@ -27,9 +27,6 @@ imagePart input = take imageLength input
 unfoldable pub membersOf : List ℕ → ℕ
 membersOf input = numberOf (take 8 (drop imageLength input))
 
--- entry k of bytes that hold two for each entry
-unfoldable pub entryIn : List ℕ → ℕ → Capability
-entryIn bytes k = record { target = byteAt bytes (2 * k); rights = byteAt bytes (2 * k + 1) }
-
+-- "2 bytes (target, rights) an entry", after the count
 unfoldable pub listOf : List ℕ → List Capability
-listOf input = tabulate (countOf input) (entryIn (drop fixedLength input))
+listOf input = entriesIn (drop fixedLength input)

@@ -1,3 +1,4 @@
 pub mod Input
+pub mod Decisions
 pub mod Printed
 pub mod Parts

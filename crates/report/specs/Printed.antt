@@ -1,16 +1,11 @@
 -- Document 01: "It prints `accepted` and then each bound object's number, decimal, ascending, one a line; or `refused N`."
--- 17 is checked first, then the image's refusals, then the test's.
 use mathlib.Core.Bool.{true, false}
 use mathlib.Core.List.{List, [], _∷_, _++_}
 use Prim.Native.Nat.{ℕ, zero, suc, _+_, _/_, _%_}
 use lib.Dec.{ltb, eqb}
 use Rattle.mask.specs.Sets.{has}
-use Rattle.image.specs.Images.{readOf, readNumber}
-use Rattle.confinement.specs.Refusals.{verdictNumber}
-use Rattle.confinement.specs.Tests.{testOf}
-use Rattle.confinement.specs.declared.Tested.{Tested}
-use Rattle.image.specs.declared.Loaded.{Loaded}
-use Rattle.report.specs.Input.{wrongLength, imagePart, membersOf, listOf}
+use Rattle.report.specs.declared.Decision.{Decision}
+use Rattle.report.specs.Decisions.{decisionOf}
 
 abbrev pub newline : ℕ
 newline = 10
@@ -41,18 +36,10 @@ refusedLine n = refusedWord ++ numberLine n
 unfoldable pub acceptedLines : ℕ → List ℕ
 acceptedLines bound = (acceptedWord ++ (newline ∷ [])) ++ numberLines bound 64
 
--- what is printed for a test's result
-unfoldable pub testLines : Tested → List ℕ
-testLines r = elim (eqb (verdictNumber (r .verdict)) 0) [ true ↦ acceptedLines (r .bound) | false ↦ refusedLine (verdictNumber (r .verdict)) ]
-
--- what is printed once the image is read
-unfoldable pub loadedLines : Loaded → List ℕ → List ℕ
-loadedLines l input =
-    elim (eqb (readNumber (l .reply)) 0) [
-      | true ↦ testLines (testOf (l .table) (membersOf input) (listOf input))
-      | false ↦ refusedLine (readNumber (l .reply))
-    ]
+-- what is printed of a decision
+unfoldable pub linesOf : Decision → List ℕ
+linesOf d = elim (eqb (d .number) 0) [ true ↦ acceptedLines (d .bound) | false ↦ refusedLine (d .number) ]
 
 -- what `confine` prints
-unfoldable pub printedOf : List ℕ → List ℕ
-printedOf input = elim (wrongLength input) [ true ↦ refusedLine 17 | false ↦ loadedLines (readOf (imagePart input)) input ]
+abbrev pub printedOf : List ℕ → List ℕ
+printedOf input = linesOf (decisionOf input)

@@ -1,8 +1,9 @@
-// The lines that are printed, put into a buffer one after the other. Each function says where the next line goes.
+// The lines of a decision, put into a buffer one after the other. Each function says where the next line goes.
+use crate::Decision;
 ghost use mathlib.Core.Path.{_≡_};
 ghost use Prim.Native.Nat.{_+_, _≤_, _<_};
 ghost use lib.ListN.{length};
-ghost use Rattle.report.specs.Printed.{numberLine, numberLines, refusedLine, acceptedLines};
+ghost use Rattle.report.specs.Printed.{numberLine, numberLines, refusedLine, acceptedLines, linesOf};
 ghost use Rattle.report.specs.Parts.{placed, begun, lineIf};
 
 // A word first.
@@ -81,4 +82,16 @@ pub fn put_accepted(out: &mut [u8], bound: u64) -> usize
 {
     let at = put_word(out, b"accepted\n");
     put_numbers(out, at, bound)
+}
+
+// What is printed of a decision.
+pub fn put_decision(out: &mut [u8], d: Decision) -> usize
+    requires { ⌜ (256 ≤ length (now out)) × (d .number < 100) ⌝ }
+    ensures next { λ r. ⌜ r ≡ length (linesOf d) ⌝ }
+    ensures left { λ _. ⌜ now (out .exit) ≡ begun (now (out .entry)) (linesOf d) ⌝ }
+{
+    if d.number != 0 {
+        return put_refused(out, d.number);
+    }
+    put_accepted(out, d.bound)
 }

@@ -2,8 +2,8 @@
 -- pairs. Sameness of requests, field for field, is equality of these.
 use mathlib.Core.List.{List, [], _∷_}
 use Prim.Native.Nat.{ℕ, _^_, _<_}
-use lib.ListN.{getD}
-use Rattle.table.specs.Lists.{tabulate}
+use lib.ListN.{length, getD}
+use Rattle.table.specs.Lists.{tabulate, padded}
 use Rattle.requests.specs.declared.Pair.{Pair}
 use Rattle.requests.specs.declared.PairList.{PairList}
 use Rattle.requests.specs.declared.Request.{Request}
@@ -61,9 +61,24 @@ InBits (allocate a n k p i l) = (a < 2 ^ 8) × (n < 2 ^ 8) × (k < 2 ^ 8) × (p 
 InBits (destroy a t) = (a < 2 ^ 8) × (t < 2 ^ 8)
 InBits (unknown c a) = (c < 2 ^ 8) × (a < 2 ^ 8)
 
+-- the list of a send or an allocate; the others have none
+abbrev pub pairsIn : Ask → List Pair
+pairsIn (read a t) = []
+pairsIn (write a t w) = []
+pairsIn (fetch a t i j) = []
+pairsIn (store a t i j) = []
+pairsIn (revoke a t j) = []
+pairsIn (send a t w l y) = l
+pairsIn (allocate a n k p i l) = l
+pairsIn (destroy a t) = []
+pairsIn (unknown c a) = []
+
+abbrev pub noPair : Pair
+noPair = record { from = 0; to = 0 }
+
 -- the pair at a place of a list, as the code holds it
 abbrev pub pairAt : PairList → ℕ → Pair
-pairAt l k = getD (l .pairs) k (record { from = 0; to = 0 })
+pairAt l k = getD (l .pairs) k noPair
 
 -- as many pairs as the count says: a count above 4 is a list too long, and what stands at or after the count is left out
 unfoldable pub pairsOf : PairList → List Pair
@@ -80,3 +95,19 @@ askOf (Send a t w y) l = send a t w (pairsOf l) y
 askOf (Allocate a n k p i) l = allocate a n k p i (pairsOf l)
 askOf (Destroy a t) l = destroy a t
 askOf (Unknown c a) l = unknown c a
+
+-- the code's two values for a request with at most 4 pairs: after the pairs of a list stand (0, 0), and an empty list stands beside a
+-- request that has none
+abbrev pub requestOf : Ask → Request
+requestOf (read a t) = Read a t
+requestOf (write a t w) = Write a t w
+requestOf (fetch a t i j) = Fetch a t i j
+requestOf (store a t i j) = Store a t i j
+requestOf (revoke a t j) = Revoke a t j
+requestOf (send a t w l y) = Send a t w y
+requestOf (allocate a n k p i l) = Allocate a n k p i
+requestOf (destroy a t) = Destroy a t
+requestOf (unknown c a) = Unknown c a
+
+unfoldable pub heldPairs : List Pair → PairList
+heldPairs list = record { count = length list; pairs = padded 4 noPair list }

@@ -1,11 +1,13 @@
--- A tabulated list: its length, its elements, one more at its end, and that a list is the one of its elements. Assumes nothing.
+-- A tabulated list: its length, its elements, one more at its end, and that a list is the one of its elements. A list that is
+-- padded to a length: one more element in the first place that was padding. Assumes nothing.
 use mathlib.Core.Path.{_≡_, refl, sym, _∙_, ap}
 use mathlib.Core.List.{List, [], _∷_, _++_}
-use Prim.Native.Nat.{ℕ, zero, suc, _+_, _<_}
+use Prim.Native.Nat.{ℕ, zero, suc, _+_, _≤_, _<_}
+use native.Mathlib.Numerals.{add-one}
 use native.Mathlib.Omega.{arith}
-use lib.ListN.{length, getD}
+use lib.ListN.{length, getD, set}
 use lib.Seq.{ext-getD}
-use Rattle.table.specs.Lists.{tabulate}
+use Rattle.table.specs.Lists.{tabulate, padded}
 
 pub length-tabulate : {A : Type 0} (n : ℕ) (f : ℕ → A) → length (tabulate n f) ≡ n
 unfolding tabulate
@@ -27,3 +29,30 @@ tabulate-snoc (suc n) f = ap (λ l. f 0 ∷ l) (tabulate-snoc n (λ k. f (suc k)
 pub as-tabulate : {A : Type 0} (n : ℕ) (f : ℕ → A) (d : A) (l : List A) → length l ≡ n → ((k : ℕ) → k < n → getD l k d ≡ f k) → l ≡ tabulate n f
 as-tabulate n f d l e h = ext-getD d l (tabulate n f) (e ∙ sym (length-tabulate n f))
     (λ i g. let b : i < n = omega arith in h i b ∙ sym (getD-tabulate n f i d b))
+
+-- padded lists ---------------------------------------------------------------------------
+module _ {A : Type 0} where
+  pub length-padded : (n : ℕ) (d : A) (xs : List A) → length (padded n d xs) ≡ n
+  unfolding padded
+  length-padded n d xs = length-tabulate n (λ k. getD xs k d)
+
+  pub getD-padded : (n : ℕ) (d : A) (xs : List A) (k : ℕ) → k < n → getD (padded n d xs) k d ≡ getD xs k d
+  unfolding padded
+  getD-padded n d xs k h = getD-tabulate n (λ i. getD xs i d) k d h
+
+  -- what a loop that stores the next element does
+  pub padded-push : (n : ℕ) (d : A) (xs : List A) (a : A) → length xs < n → set (padded n d xs) (length xs) a ≡ padded n d (xs ++ (a ∷ []))
+  unfolding padded tabulate
+  padded-push zero d xs a h = absurd (omega arith)
+  padded-push (suc n) d [] a h = refl
+  padded-push (suc n) d (x ∷ xs) a h = ap (λ l. x ∷ l) (padded-push n d xs a (omega arith))
+
+  pub padded-more : (n : ℕ) (d : A) (f : ℕ → A) (k : ℕ) (l : List A) → k < n → l ≡ padded n d (tabulate k f) → set l k (f k) ≡ padded n d (tabulate (k + 1) f)
+  padded-more n d f k l h e =
+      let z = length-tabulate k f in
+      ap (λ (x : List A). set x k (f k)) e ∙ ap (λ (i : ℕ). set (padded n d (tabulate k f)) i (f k)) (sym z)
+      ∙ padded-push n d (tabulate k f) (f k) (omega arith) ∙ ap (padded n d) (sym (tabulate-snoc k f)) ∙ (rw add-one refl)
+
+  -- the elements of a padded list that has room for all of them
+  pub padded-all : (n : ℕ) (d : A) (xs : List A) → length xs ≤ n → tabulate (length xs) (λ k. getD (padded n d xs) k d) ≡ xs
+  padded-all n d xs h = sym (as-tabulate (length xs) _ d xs refl (λ k g. sym (getD-padded n d xs k (omega arith))))

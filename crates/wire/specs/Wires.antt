@@ -4,17 +4,23 @@ use mathlib.Core.Bool.{Bool, true, cond, _&&_, _||_}
 use mathlib.Core.List.{List}
 use Prim.Native.Nat.{ℕ, _+_, _*_}
 use lib.Dec.{ltb, leb, eqb}
-use lib.ListN.{length, take, drop}
+use lib.ListN.{length, getD, take, drop}
 use Rattle.table.specs.Lists.{tabulate}
 use Rattle.octets.specs.BigEndian.{byteAt, numberOf}
 use Rattle.requests.specs.declared.Pair.{Pair}
-use Rattle.requests.specs.Asks.{Ask, read, write, fetch, store, revoke, send, allocate, destroy, unknown}
+use Rattle.requests.specs.Asks.{Ask, read, write, fetch, store, revoke, send, allocate, destroy, unknown, pairsIn, requestOf, heldPairs}
+use Rattle.wire.specs.declared.Asked.{Asked}
 
 abbrev pub codeIn : List ℕ → ℕ
 codeIn bs = byteAt bs 0
 
+-- the number of nobody: no object has it
+abbrev pub nobody : ℕ
+nobody = 64
+
+-- who asks: the byte after the code. Bytes that are too short to have one are nobody's
 abbrev pub actorIn : List ℕ → ℕ
-actorIn bs = byteAt bs 1
+actorIn bs = getD bs 1 nobody
 
 -- where the list of a send or an allocate begins, with its count
 abbrev pub listPlace : ℕ → ℕ
@@ -69,3 +75,7 @@ fieldsOf bs =
 -- the request that any bytes are: those that are no request are one without fields, which is refused by 2
 unfoldable pub askFrom : List ℕ → Ask
 askFrom bs = cond (fitsOf bs) (fieldsOf bs) (unknown (codeIn bs) (actorIn bs))
+
+-- the code's two values for a request
+abbrev pub askedOf : Ask → Asked
+askedOf q = record { request = requestOf q; list = heldPairs (pairsIn q) }

@@ -1,8 +1,11 @@
 -- `captable::captable_test` meets its contract: the list that is held is answered as the one of the bytes. Assumes nothing.
 use mathlib.Core.Path.{_∙_, ap}
 use Prim.Native.Nat.{ℕ}
-use Rattle.report.proofs.Inputs.{test-held}
-use Rattle.captable.specs.Crossing.{found, listIn}
+use Rattle.confinement.specs.declared.EntryList.{EntryList}
+use Rattle.confinement.specs.StandIn.{entriesOf}
+use Rattle.confinement.specs.Tests.{testOf}
+use Rattle.wire.proofs.Lists.{test-bytes}
+use Rattle.captable.specs.Crossing.{found}
 use borrow.Author.Needs.{needs}
 use Rattle.captable.proofs.captable_test.Statement.{statement}
 use Rattle.captable.proofs.captable_test.Tie as tie
@@ -21,7 +24,7 @@ returns c = let a = c .before .before .before .before .args in
     let l = c .before .before .list-of in
     let t = c .before .test in
     ap (λ (n : ℕ). record { number = n; bound = t .result .bound }) (c .of-verdict .ensures)
-    ∙ ap found (t .ensures ∙ test-held (a .table) (a .members) (l .result) (listIn (a .list .now)) (l .ensures .0) (l .ensures .1))
+    ∙ ap found (t .ensures ∙ ap (λ (x : EntryList). testOf (a .table) (a .members) (entriesOf x)) (l .ensures) ∙ test-bytes (a .table) (a .members) (a .list .now))
 
 pub captable-test-spec : {M : Type 1} → statement M
 captable-test-spec =

@@ -1,4 +1,4 @@
--- `wire::byte_at` meets its contract: what lies past the end reads as 0. Assumes nothing.
+-- `octets::byte_at` meets its contract: what lies past the end reads as 0. Assumes nothing.
 use mathlib.Core.Path.{sym}
 use lib.ListN.{List·getD-eq-default}
 use borrow.Author.Needs.{needs}

@@ -1,0 +1,2 @@
+-- Laws of requests as the code holds them.
+pub mod Held
