@@ -1,0 +1,80 @@
+-- What the loops of one round and of all rounds keep: the numbers found so far, then the rounds that are left. Assumes nothing.
+use mathlib.Core.Path.{_≡_, sym, _∙_, ap}
+use mathlib.Core.Logic.{_≢_}
+use mathlib.Core.Bool.{Bool, true, false, _&&_, _||_}
+use Prim.Native.Nat.{ℕ, suc, _+_, _-_, _^_, _≤_, _<_}
+use native.Mathlib.Numerals.{add-one}
+use native.Mathlib.Omega.{arith}
+use lib.Dec.{eqb}
+use borrow.Author.Tests.{eq-eqb, ne-eqb}
+use Rattle.mask.specs.Sets.{has, bits, anyBelow, including, unionOf}
+use Rattle.mask.proofs.Tests.{or-false, or-assoc}
+use Rattle.mask.proofs.Below.{any-last}
+use Rattle.mask.proofs.Bits.{has-bits, bits-lt, bits-same, as-bits, has-zero}
+use Rattle.access.specs.Closure.{grow, spread, only, mostRounds, reached}
+
+-- one round, by a loop over the numbers that are there --------------------------------
+module _ (edge : ℕ → ℕ → Bool) (s : ℕ) where
+  -- what is there, and what is one edge from a number below n of it
+  unfoldable pub grownTo : ℕ → ℕ
+  grownTo n = bits 64 (λ y. has y s || anyBelow n (λ x. has x s && edge x y))
+
+  pub grown-none : s < 2 ^ 64 → s ≡ grownTo 0
+  unfolding grownTo anyBelow
+  grown-none low = as-bits 64 s _ low (λ y hy. sym (or-false (has y s)))
+
+  grown-next : (n : ℕ) → bits 64 (λ y. has y (grownTo n) || (has n s && edge n y)) ≡ grownTo (n + 1)
+  unfolding grownTo
+  grown-next n = rw add-one (bits-same 64 _ _ (λ y hy.
+      ap (λ (t : Bool). t || (has n s && edge n y)) (has-bits 64 y (λ z. has z s || anyBelow n (λ x. has x s && edge x z)) hy)
+      ∙ or-assoc (has y s) _ _ ∙ ap (λ (t : Bool). has y s || t) (sym (any-last n _))))
+
+  -- the edges from n are those that a word has
+  pub grown-on : (n word : ℕ) → ((y : ℕ) → has y word ≡ edge n y) → has n s ≡ true → unionOf (grownTo n) word ≡ grownTo (n + 1)
+  unfolding unionOf
+  grown-on n word w e = bits-same 64 _ _ (λ y hy.
+      ap (λ (t : Bool). has y (grownTo n) || t) (w y ∙ ap (λ (t : Bool). t && edge n y) (sym e))) ∙ grown-next n
+
+  pub grown-off : (n : ℕ) → has n s ≡ false → grownTo n ≡ grownTo (n + 1)
+  unfolding grownTo
+  grown-off n e = as-bits 64 (grownTo n) _ (bits-lt 64 _)
+      (λ y hy. sym (or-false (has y (grownTo n))) ∙ ap (λ (t : Bool). has y (grownTo n) || (t && edge n y)) (sym e)) ∙ grown-next n
+
+  pub grown-all : (n : ℕ) → 64 ≤ n → n ≤ 64 → grownTo n ≡ grow edge s
+  unfolding grownTo grow
+  grown-all n h l = let e : n ≡ 64 = omega arith in ap grownTo e
+
+-- x alone ----------------------------------------------------------------------------------
+pub only-low : (x : ℕ) → including x 0 ≡ only x
+unfolding including only
+only-low x = bits-same 64 _ _ (λ y hy. ap (λ (t : Bool). t || eqb y x) (has-zero y))
+
+pub only-high : (x : ℕ) → 64 ≤ x → 0 ≡ only x
+unfolding only
+only-high x h = as-bits 64 0 _ (omega arith) (λ y hy. has-zero y ∙ sym (ne-eqb y x (λ e. omega arith)))
+
+-- all rounds, by a loop that stops where one adds nothing -------------------------------------
+module _ (edge : ℕ → ℕ → Bool) (x : ℕ) where
+  -- the rounds that are left after k, from s
+  abbrev pub Going : ℕ → ℕ → Type 0
+  Going s k = spread (mostRounds - k) edge s ≡ reached edge x
+
+  pub going-none : (s : ℕ) → s ≡ only x → Going s 0
+  unfolding reached
+  going-none s e = ap (spread mostRounds edge) e
+
+  pub going-more : (s t k : ℕ) → k < mostRounds → t ≡ grow edge s → t ≢ s → Going s k → Going t (k + 1)
+  unfolding spread
+  going-more s t k h e n p =
+      let left : mostRounds - k ≡ suc (mostRounds - (k + 1)) = omega arith in
+      rw e (rw (ne-eqb (grow edge s) s (λ q. n (e ∙ q)), spread) at (rw left at p))
+
+  pub going-still : (s t k : ℕ) → k < mostRounds → t ≡ grow edge s → t ≡ s → Going s k → s ≡ reached edge x
+  unfolding spread
+  going-still s t k h e q p =
+      let left : mostRounds - k ≡ suc (mostRounds - (k + 1)) = omega arith in
+      rw (eq-eqb (grow edge s) s (sym e ∙ q), spread) at (rw left at p)
+
+  pub going-end : (s k : ℕ) → mostRounds ≤ k → Going s k → s ≡ reached edge x
+  unfolding spread
+  going-end s k h p = let left : mostRounds - k ≡ 0 = omega arith in rw left at p
