@@ -11,6 +11,7 @@ pub mod definitions;
 pub mod generate;
 pub mod image;
 pub mod json;
+pub mod links;
 pub mod refusal;
 pub mod rng;
 pub mod set;

@@ -14,6 +14,62 @@ pub const NO_REPLY: u8 = 8;
 /// A pair: the actor's slot, the destination slot.
 pub type Pair = (u8, u8);
 
+/// The requests by name.
+#[derive(Clone, Copy, Debug, PartialEq, Eq)]
+pub enum Code {
+    Read,
+    Write,
+    Fetch,
+    Store,
+    Revoke,
+    Send,
+    Allocate,
+    Destroy,
+}
+
+impl Code {
+    /// In the order of their numbers, from 1 on.
+    pub const ALL: [Code; 8] = [
+        Code::Read,
+        Code::Write,
+        Code::Fetch,
+        Code::Store,
+        Code::Revoke,
+        Code::Send,
+        Code::Allocate,
+        Code::Destroy,
+    ];
+
+    /// The request with the number, if there is one.
+    pub fn of(number: u8) -> Option<Code> {
+        Code::ALL.into_iter().find(|code| code.number() == number)
+    }
+
+    /// The column "Code" of document 01.
+    pub fn number(self) -> u8 {
+        match self {
+            Code::Read => 1,
+            Code::Write => 2,
+            Code::Fetch => 3,
+            Code::Store => 4,
+            Code::Revoke => 5,
+            Code::Send => 6,
+            Code::Allocate => 7,
+            Code::Destroy => 8,
+        }
+    }
+
+    /// The rights of which the used slot needs at least one. An allocate uses no slot.
+    pub fn needs(self) -> Option<u8> {
+        match self {
+            Code::Read | Code::Fetch => Some(RD | WK),
+            Code::Write | Code::Store | Code::Revoke | Code::Destroy => Some(WR),
+            Code::Send => Some(TX),
+            Code::Allocate => None,
+        }
+    }
+}
+
 /// A request with the fields of document 01. Any field may be out of range, and a list of any
 /// length can be stated: that is for the step to refuse.
 #[derive(Clone, Debug, PartialEq, Eq)]
@@ -71,17 +127,17 @@ pub enum Request {
 }
 
 impl Request {
-    /// The code of the request.
+    /// The number of the request.
     pub fn code(&self) -> u8 {
         match self {
-            Request::Read { .. } => 1,
-            Request::Write { .. } => 2,
-            Request::Fetch { .. } => 3,
-            Request::Store { .. } => 4,
-            Request::Revoke { .. } => 5,
-            Request::Send { .. } => 6,
-            Request::Allocate { .. } => 7,
-            Request::Destroy { .. } => 8,
+            Request::Read { .. } => Code::Read.number(),
+            Request::Write { .. } => Code::Write.number(),
+            Request::Fetch { .. } => Code::Fetch.number(),
+            Request::Store { .. } => Code::Store.number(),
+            Request::Revoke { .. } => Code::Revoke.number(),
+            Request::Send { .. } => Code::Send.number(),
+            Request::Allocate { .. } => Code::Allocate.number(),
+            Request::Destroy { .. } => Code::Destroy.number(),
             Request::Unknown { code, .. } => *code,
         }
     }
@@ -104,15 +160,17 @@ impl Request {
     /// The actor's slot that is used, and the rights of which it needs at least one.
     /// Allocate and unknown codes use no slot.
     pub fn used_slot(&self) -> Option<(u8, u8)> {
-        match self {
-            Request::Read { t, .. } | Request::Fetch { t, .. } => Some((*t, RD | WK)),
-            Request::Write { t, .. }
-            | Request::Store { t, .. }
-            | Request::Revoke { t, .. }
-            | Request::Destroy { t, .. } => Some((*t, WR)),
-            Request::Send { t, .. } => Some((*t, TX)),
-            Request::Allocate { .. } | Request::Unknown { .. } => None,
-        }
+        let (code, t) = match self {
+            Request::Read { t, .. } => (Code::Read, t),
+            Request::Write { t, .. } => (Code::Write, t),
+            Request::Fetch { t, .. } => (Code::Fetch, t),
+            Request::Store { t, .. } => (Code::Store, t),
+            Request::Revoke { t, .. } => (Code::Revoke, t),
+            Request::Send { t, .. } => (Code::Send, t),
+            Request::Destroy { t, .. } => (Code::Destroy, t),
+            Request::Allocate { .. } | Request::Unknown { .. } => return None,
+        };
+        Some((*t, code.needs()?))
     }
 
     /// Whether the code is known and no field is out of range.

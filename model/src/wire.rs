@@ -5,12 +5,14 @@
 use crate::confinement::{Entry, MAX_ENTRIES};
 use crate::step::{Pair, Request, MAX_PAIRS};
 
+/// Who asks where no byte says who does: a number that no object has.
+pub const NOBODY: u8 = 64;
+
 /// The request that bytes are. Those that are none make a request without fields, which is refused.
 pub fn decode(bytes: &[u8]) -> Request {
-    let byte = |k: usize| bytes.get(k).copied().unwrap_or(0);
     request_in(bytes).unwrap_or(Request::Unknown {
-        code: byte(0),
-        actor: byte(1),
+        code: bytes.first().copied().unwrap_or(0),
+        actor: bytes.get(1).copied().unwrap_or(NOBODY),
     })
 }
 

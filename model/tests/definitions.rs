@@ -439,7 +439,7 @@ fn a_crate_brings_all_that_it_stands_on() {
 /// A small repository.
 fn write_repository(root: &Path) {
     for (file, text) in [
-        ("crates.txt", "mask:\nrequests: mask"),
+        ("crates.txt", "mask:\nsteps: mask"),
         ("crates/mask/src/lib.rt", "// code\n"),
         ("crates/mask/specs/Lib.antt", "pub mod Sets\n"),
         ("crates/mask/specs/Sets.antt", "unfoldable pub bits : ℕ\n"),
@@ -448,9 +448,9 @@ fn write_repository(root: &Path) {
             "unfoldable pub low : ℕ\n",
         ),
         ("crates/mask/must-fail/one.edit", "file: specs/Sets.antt\n"),
-        ("crates/requests/src/lib.rt", "// code\n"),
+        ("crates/steps/src/lib.rt", "// code\n"),
         (
-            "crates/requests/specs/Steps.antt",
+            "crates/steps/specs/Steps.antt",
             "unfoldable pub stepOf : ℕ\n",
         ),
         ("target/log", "old\n"),
@@ -486,21 +486,21 @@ fn cases_are_added_to_a_copy_only() {
     let modules = modules(&scratch.folder, Topic::Steps, &below, &cases).expect("modules");
     let stated: Vec<usize> = modules.iter().flat_map(|m| m.cases.clone()).collect();
     assert_eq!(stated, (0..34).collect::<Vec<_>>());
-    let name = "cases_requests".to_string();
+    let name = "cases_steps".to_string();
     let added = CaseCrate { name, modules };
     scratch.add_crate(&added, &below).expect("crate");
 
     let read = |file: &str| fs::read_to_string(scratch.folder.join(file)).expect(file);
-    assert!(read("crates.txt").contains("requests: mask\ncases_requests: requests mask\n"));
+    assert!(read("crates.txt").contains("steps: mask\ncases_steps: steps mask\n"));
     assert_eq!(
-        read("crates/cases_requests/proofs/Lib.antt"),
+        read("crates/cases_steps/proofs/Lib.antt"),
         "pub mod Steps00\npub mod Steps01\n"
     );
-    let first = read("crates/cases_requests/proofs/Steps00.antt");
-    assert!(first.contains(" Rattle.requests.specs.Steps.stepOf Rattle.mask.specs.Sets.Low.low "));
+    let first = read("crates/cases_steps/proofs/Steps00.antt");
+    assert!(first.contains(" Rattle.steps.specs.Steps.stepOf Rattle.mask.specs.Sets.Low.low "));
     assert!(!scratch.folder.join("crates/mask/must-fail").exists());
     assert!(!scratch.folder.join("target").exists());
-    assert!(!root.join("crates/cases_requests").exists());
+    assert!(!root.join("crates/cases_steps").exists());
     fs::remove_dir_all(folder).expect("remove");
 }
 

@@ -286,3 +286,18 @@ fn dead_non_members_may_be_listed_and_unborn_ones_not() {
     let unborn = confinement_test(&table, members, &[(1, 2), (7, 15)]);
     assert_eq!(unborn, (11, 0));
 }
+
+/// The bound of an accepted test is what the holder of the list reaches by links, without the members.
+#[test]
+fn links_reach_the_bound() {
+    let mut accepted = 0;
+    for case in yavrinks_model::vectors::test_cases() {
+        let (number, bound) = confinement_test(&case.table, case.members, &case.list);
+        if number == 0 {
+            accepted += 1;
+            let reach = yavrinks_model::vectors::test_reach(&case);
+            assert_eq!(bound, reach & !case.members);
+        }
+    }
+    assert!(accepted > 100, "only {accepted} tests were accepted");
+}

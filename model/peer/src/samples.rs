@@ -3,7 +3,7 @@
 use yavrinks_model::generate::{numbers_where, sound_table, Shape};
 use yavrinks_model::rng::Rng;
 use yavrinks_model::set;
-use yavrinks_model::step::{step_in_place, Request};
+use yavrinks_model::step::{step_in_place, Code, Request};
 use yavrinks_model::table::{Capability, Record, Table, RD, WR};
 
 /// A table to measure on, with an object that no other names: the member of its confinement test.
@@ -102,18 +102,26 @@ pub fn held_list(table: &Table, member: u8) -> Vec<u8> {
         .collect()
 }
 
-/// The names of the requests, by code.
-const NAMES: [&str; 8] = [
-    "read", "write", "fetch", "store", "revoke", "send", "allocate", "destroy",
-];
+/// The name of a request.
+fn name(code: Code) -> &'static str {
+    match code {
+        Code::Read => "read",
+        Code::Write => "write",
+        Code::Fetch => "fetch",
+        Code::Store => "store",
+        Code::Revoke => "revoke",
+        Code::Send => "send",
+        Code::Allocate => "allocate",
+        Code::Destroy => "destroy",
+    }
+}
 
 /// Each of the eight requests, done, then one refused by 6 and a nonsense code.
 pub fn requests(table: &Table) -> Vec<(String, Request)> {
-    let done = (1..=8).filter_map(|code| {
-        let name = NAMES[usize::from(code) - 1].to_string();
-        Some((name, find_request(table, code, 0)?))
-    });
-    let refused = find_request(table, 2, 6).map(|request| (String::from("refused write"), request));
+    let done = Code::ALL
+        .into_iter()
+        .filter_map(|code| Some((name(code).to_string(), find_request(table, code, 0)?)));
+    let refused = find_request(table, Code::Write, 6).map(|request| (String::from("refused write"), request));
     let nonsense = Request::Unknown { code: 99, actor: 2 };
     done.chain(refused)
         .chain([(String::from("nonsense code"), nonsense)])
@@ -122,33 +130,34 @@ pub fn requests(table: &Table) -> Vec<(String, Request)> {
 
 /// The first request of the code that gets the reply. All but allocate and destroy get it again on the
 /// table that they leave.
-fn find_request(table: &Table, code: u8, reply: u8) -> Option<Request> {
+fn find_request(table: &Table, code: Code, reply: u8) -> Option<Request> {
     let places = (0..64).flat_map(|actor| (0..8).map(move |t| (actor, t)));
     let mut candidates = places.map(|(actor, t)| candidate(table, code, actor, t));
     candidates.find(|request| {
         let mut after = table.clone();
         step_in_place(&mut after, request) == reply
-            && (code >= 7 || step_in_place(&mut after, request) == reply)
+            && (matches!(code, Code::Allocate | Code::Destroy)
+                || step_in_place(&mut after, request) == reply)
     })
 }
 
-fn candidate(table: &Table, code: u8, actor: u8, t: u8) -> Request {
+fn candidate(table: &Table, code: Code, actor: u8, t: u8) -> Request {
     let (word, i, j) = (7, 1, 6);
     let list = vec![(0, 1), (1, 2), (2, 3), (3, 4)];
     match code {
-        1 => Request::Read { actor, t },
-        2 => Request::Write { actor, t, word },
-        3 => Request::Fetch { actor, t, i, j },
-        4 => Request::Store { actor, t, i, j },
-        5 => Request::Revoke { actor, t, j },
-        6 => Request::Send {
+        Code::Read => Request::Read { actor, t },
+        Code::Write => Request::Write { actor, t, word },
+        Code::Fetch => Request::Fetch { actor, t, i, j },
+        Code::Store => Request::Store { actor, t, i, j },
+        Code::Revoke => Request::Revoke { actor, t, j },
+        Code::Send => Request::Send {
             actor,
             t,
             word,
             list,
             reply: 5,
         },
-        7 => Request::Allocate {
+        Code::Allocate => Request::Allocate {
             actor,
             n: set::numbers(table.record(actor).stock).next().unwrap_or(0),
             kind: 1,
@@ -156,7 +165,7 @@ fn candidate(table: &Table, code: u8, actor: u8, t: u8) -> Request {
             i: t,
             list,
         },
-        _ => Request::Destroy { actor, t },
+        Code::Destroy => Request::Destroy { actor, t },
     }
 }
 

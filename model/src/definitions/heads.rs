@@ -44,10 +44,10 @@ const STEPS_USES: &str = "\
 use Rattle.requests.specs.declared.Pair.{Pair}
 use Rattle.requests.specs.declared.PairList.{PairList}
 use Rattle.requests.specs.declared.Request.the-variants.{Read, Write, Fetch, Store, Revoke, Send, Allocate, Destroy, Unknown}
-use Rattle.requests.specs.declared.Stepped.{Stepped}
 use Rattle.requests.specs.Asks.{Ask, read, write, fetch, store, revoke, send, allocate, destroy, unknown, pairsOf, askOf}
-use Rattle.requests.specs.Replies.{number}
-use Rattle.requests.specs.Steps.{stepOf, runTable, runReplies}
+use Rattle.refusals.specs.Replies.{number}
+use Rattle.steps.specs.declared.Stepped.{Stepped}
+use Rattle.steps.specs.Steps.{stepOf, runTable, runReplies}
 ";
 
 const STEPS_WORDS: &str = "
@@ -101,7 +101,7 @@ const BYTES_USES: &str = "\
 use Rattle.requests.specs.declared.Pair.{Pair}
 use Rattle.requests.specs.Asks.{Ask, read, write, fetch, store, revoke, send, allocate, destroy, unknown}
 use Rattle.wire.specs.Wires.{askFrom}
-use Rattle.captable.specs.Crossing.{listIn}
+use Rattle.wire.specs.Entries.{entriesIn}
 ";
 
 const BYTES_WORDS: &str = "

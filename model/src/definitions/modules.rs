@@ -46,12 +46,12 @@ impl Topic {
     /// The crate of the definitions.
     pub fn definitions(self) -> &'static str {
         match self {
-            Topic::Steps => "requests",
+            Topic::Steps => "steps",
             Topic::Tests => "confinement",
             Topic::Access => "access",
             Topic::Images => "image",
             Topic::Printed => "report",
-            Topic::Bytes => "captable",
+            Topic::Bytes => "wire",
         }
     }
 

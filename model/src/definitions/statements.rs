@@ -103,7 +103,7 @@ impl Writer<'_> {
             }
             Question::ListBytes { bytes } => {
                 let bytes = self.value("bytes", "List ℕ", &terms::bytes(bytes));
-                format!("listIn {bytes}")
+                format!("entriesIn {bytes}")
             }
         }
     }

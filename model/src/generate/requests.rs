@@ -4,7 +4,7 @@
 use super::tables::{any_damage, any_word, numbers_where, sound_table, Shape};
 use crate::rng::Rng;
 use crate::set;
-use crate::step::{Pair, Request, MAX_PAIRS, NO_REPLY};
+use crate::step::{Code, Pair, Request, MAX_PAIRS, NO_REPLY};
 use crate::table::{Capability, Record, Table, ACTIVE, ALL_RIGHTS, PASSIVE};
 
 /// A table and a request for it.
@@ -16,7 +16,7 @@ pub struct StepCase {
 
 /// Whether a request with this code can get the reply `aim`, from 0 to 9.
 pub fn can_meet(code: u8, aim: u8) -> bool {
-    let known = (1..=8).contains(&code);
+    let known = Code::of(code).is_some();
     match aim {
         1 | 2 => true,
         0 | 3 => known,
@@ -88,7 +88,7 @@ fn used_slot_case(rng: &mut Rng, code: u8, aim: u8) -> Option<StepCase> {
     let shape = Shape::mixed(rng);
     let mut table = sound_table(rng, &shape);
     let actor = rng.pick(&numbers_where(&table, can_act))?;
-    let request = valid_request(rng, code, actor);
+    let request = valid_request(rng, Code::of(code)?, actor);
     let (t, needed) = request.used_slot()?;
     let mut targets = match (aim, code) {
         (8, _) => vec![actor],
@@ -162,27 +162,27 @@ fn can_act(record: &Record) -> bool {
 }
 
 /// A request with a known code and every field in range. An allocate has any n and part.
-fn valid_request(rng: &mut Rng, code: u8, actor: u8) -> Request {
+fn valid_request(rng: &mut Rng, code: Code, actor: u8) -> Request {
     let (t, i, j) = (rng.byte(0, 7), rng.byte(0, 7), rng.byte(0, 7));
     let word = any_word(rng);
     match code {
-        1 => Request::Read { actor, t },
-        2 => Request::Write { actor, t, word },
-        3 => Request::Fetch { actor, t, i, j },
-        4 => Request::Store { actor, t, i, j },
-        5 => Request::Revoke { actor, t, j },
-        6 => Request::Send {
+        Code::Read => Request::Read { actor, t },
+        Code::Write => Request::Write { actor, t, word },
+        Code::Fetch => Request::Fetch { actor, t, i, j },
+        Code::Store => Request::Store { actor, t, i, j },
+        Code::Revoke => Request::Revoke { actor, t, j },
+        Code::Send => Request::Send {
             actor,
             t,
             word,
             list: valid_list(rng),
             reply: rng.byte(0, NO_REPLY),
         },
-        7 => {
+        Code::Allocate => {
             let (n, part) = (rng.byte(0, 63), rng.bits());
             allocate(rng, actor, n, part)
         }
-        _ => Request::Destroy { actor, t },
+        Code::Destroy => Request::Destroy { actor, t },
     }
 }
 
@@ -277,10 +277,10 @@ pub fn any_request(rng: &mut Rng) -> Request {
         rng.byte(0, 255)
     };
     let actor = loose_byte(rng, 63);
-    if !(1..=8).contains(&code) {
+    let Some(known) = Code::of(code) else {
         return Request::Unknown { code, actor };
-    }
-    let mut request = valid_request(rng, code, actor);
+    };
+    let mut request = valid_request(rng, known, actor);
     if rng.percent(10) {
         put_out_of_range(rng, &mut request);
     }
@@ -300,9 +300,9 @@ pub fn likely_request(rng: &mut Rng, table: &Table) -> Request {
 fn granted_request(rng: &mut Rng, table: &Table, actor: u8) -> Request {
     // Destroy is rarer than the others, so that a run does not soon end with all dead.
     let codes = [1, 2, 3, 3, 3, 4, 4, 4, 5, 6, 6, 6, 7, 7, 7, 8];
-    let code = rng.pick(&codes).unwrap_or(1);
+    let code = rng.pick(&codes).and_then(Code::of).unwrap_or(Code::Read);
     let record = table.record(actor);
-    if code == 7 {
+    if code == Code::Allocate {
         let own: Vec<u8> = set::numbers(record.stock).collect();
         if let Some(n) = rng.pick(&own) {
             let part = random_part(rng, record.stock & !set::single(n));

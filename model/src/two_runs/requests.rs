@@ -4,8 +4,8 @@
 use crate::generate::any_request;
 use crate::rng::Rng;
 use crate::set;
-use crate::step::{Pair, Request, MAX_PAIRS, NO_REPLY};
-use crate::table::{Record, Table, ACTIVE, PASSIVE, RD, SLOTS, TX, UNBORN, WK, WR};
+use crate::step::{Code, Pair, Request, MAX_PAIRS, NO_REPLY};
+use crate::table::{Record, Table, ACTIVE, PASSIVE, SLOTS, UNBORN};
 
 /// Codes by how often they are tried. Revoke and destroy are rare, since they end what the
 /// others need.
@@ -66,12 +66,12 @@ fn actor_of(request: &mut Request) -> &mut u8 {
 /// A request that is done, if a few attempts find one.
 fn likely_request(rng: &mut Rng, table: &Table, actor: u8, clean: u64) -> Request {
     for _ in 0..5 {
-        let code = rng.pick(&CODES).unwrap_or(1);
-        let found = if code == 7 {
+        let code = rng.pick(&CODES).and_then(Code::of).unwrap_or(Code::Read);
+        let found = if code == Code::Allocate {
             allocate(rng, table, actor)
         } else {
             serving_slot(rng, table, actor, code, clean)
-                .map(|t| request_through(rng, table, actor, code, t))
+                .and_then(|t| request_through(rng, table, actor, code, t))
         };
         if let Some(request) = found {
             return request;
@@ -84,7 +84,7 @@ fn likely_request(rng: &mut Rng, table: &Table, actor: u8, clean: u64) -> Reques
 
 /// A slot of the actor that serves the code. Slots that lead across, from clean to other objects
 /// or back, are preferred: under sound rules these have wk alone and do no harm.
-fn serving_slot(rng: &mut Rng, table: &Table, actor: u8, code: u8, clean: u64) -> Option<u8> {
+fn serving_slot(rng: &mut Rng, table: &Table, actor: u8, code: Code, clean: u64) -> Option<u8> {
     let mut slots: Vec<u8> = (0..SLOTS as u8)
         .filter(|&t| slot_serves(table, actor, code, t))
         .collect();
@@ -98,47 +98,52 @@ fn serving_slot(rng: &mut Rng, table: &Table, actor: u8, code: u8, clean: u64) -
     rng.pick(&slots)
 }
 
-fn slot_serves(table: &Table, actor: u8, code: u8, t: u8) -> bool {
-    let needed = match code {
-        1 | 3 => RD | WK,
-        6 => TX,
-        _ => WR,
+fn slot_serves(table: &Table, actor: u8, code: Code, t: u8) -> bool {
+    let Some(needed) = code.needs() else {
+        return false;
     };
     let used = table.record(actor).slots[usize::from(t)];
     let target = table.record(used.target);
     used.has_any(needed)
         && target.is_alive()
-        && (code != 6 || target.is_active())
-        && (code != 8 || used.target != actor)
+        && (code != Code::Send || target.is_active())
+        && (code != Code::Destroy || used.target != actor)
 }
 
-/// A request with the code, other than allocate, that uses slot t.
-fn request_through(rng: &mut Rng, table: &Table, actor: u8, code: u8, t: u8) -> Request {
+/// A request with the code that uses slot t, if it uses one.
+fn request_through(
+    rng: &mut Rng,
+    table: &Table,
+    actor: u8,
+    code: Code,
+    t: u8,
+) -> Option<Request> {
     let own = table.record(actor);
     let target = table.record(own.slots[usize::from(t)].target);
     let word = rng.between(0, 99) as u32;
     let j = rng.byte(0, 7);
-    match code {
-        1 => Request::Read { actor, t },
-        2 => Request::Write { actor, t, word },
-        3 => {
+    Some(match code {
+        Code::Read => Request::Read { actor, t },
+        Code::Write => Request::Write { actor, t, word },
+        Code::Fetch => {
             let (i, j) = (filled_slot(rng, target), free_slot(rng, own));
             Request::Fetch { actor, t, i, j }
         }
-        4 => {
+        Code::Store => {
             let i = filled_slot(rng, own);
             Request::Store { actor, t, i, j }
         }
-        5 => Request::Revoke { actor, t, j },
-        6 => Request::Send {
+        Code::Revoke => Request::Revoke { actor, t, j },
+        Code::Send => Request::Send {
             actor,
             t,
             word,
             list: pairs(rng, own),
             reply: rng.byte(0, NO_REPLY),
         },
-        _ => Request::Destroy { actor, t },
-    }
+        Code::Allocate => return None,
+        Code::Destroy => Request::Destroy { actor, t },
+    })
 }
 
 /// Mostly a filled slot of the record.

@@ -2,6 +2,7 @@
 //! The program `vectors` works the same number out, so that a line can stand for a whole table.
 
 use crate::access::Access;
+use crate::links::Links;
 use crate::table::{Table, OBJECTS, RD, TX, WK, WR};
 
 /// The digest of bytes.
@@ -27,6 +28,12 @@ pub fn of_relation(access: &Access) -> u64 {
             bytes.extend(targets.to_be_bytes());
         }
     }
+    of_bytes(&bytes)
+}
+
+/// The digest of links: the numbers one link from each number.
+pub fn of_links(links: &Links) -> u64 {
+    let bytes: Vec<u8> = links.from.iter().flat_map(|to| to.to_be_bytes()).collect();
     of_bytes(&bytes)
 }
 

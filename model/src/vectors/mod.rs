@@ -6,6 +6,7 @@ mod digest;
 mod edges;
 mod images;
 mod layout;
+mod links;
 mod relations;
 mod steps;
 mod verdicts;
@@ -17,6 +18,7 @@ use std::path::Path;
 pub use chain::{chain, Chain};
 pub use edges::edges;
 pub use images::{image_cases, write_cases, ImageCase, WriteCase};
+pub use links::test_reach;
 pub use relations::access_cases;
 pub use steps::step_cases;
 pub use verdicts::test_cases;
@@ -72,6 +74,7 @@ pub fn parts() -> Vec<Part> {
         edges::part(),
         verdicts::part(),
         relations::part(),
+        links::part(),
     ]
 }
 

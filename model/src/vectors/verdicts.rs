@@ -134,13 +134,20 @@ fn edge_lists(n: u8) -> Vec<ConfinementCase> {
 }
 
 pub fn part() -> Part {
-    let mut part = Part::new("tests", "confinement tests: case, number, bound");
+    under("confinement tests: case, number, bound", |case| {
+        let (number, bound) = confinement_test(&case.table, case.members, &case.list);
+        format!("{number} {bound:016x}")
+    })
+}
+
+/// The file of the tests, with an answer to each of its cases.
+pub(super) fn under(heading: &'static str, answer: impl Fn(&ConfinementCase) -> String) -> Part {
+    let mut part = Part::new("tests", heading);
     let mut rng = Rng::new(0x7E576);
     for case in test_cases() {
         let mut bytes = layout::table(&case.table);
         bytes.extend(layout::members_and_list(&mut rng, case.members, &case.list));
-        let (number, bound) = confinement_test(&case.table, case.members, &case.list);
-        part.add(&bytes, format!("{number} {bound:016x}"));
+        part.add(&bytes, answer(&case));
     }
     part
 }

@@ -3,8 +3,8 @@
 
 use yavrinks_model::generate::bounded_fields;
 use yavrinks_model::rng::Rng;
-use yavrinks_model::step::{Pair, Request, MAX_PAIRS, NO_REPLY};
-use yavrinks_model::table::{Record, Table, ACTIVE, OBJECTS, RD, SLOTS, TX, WK, WR};
+use yavrinks_model::step::{Code, Pair, Request, MAX_PAIRS, NO_REPLY};
+use yavrinks_model::table::{Record, Table, ACTIVE, OBJECTS, SLOTS};
 
 /// A code and a reply to aim at; some several times, so that they are drawn more often. Destroys that
 /// are done are rare: a table should not soon be dead.
@@ -21,10 +21,9 @@ const AIMS: [(u8, u8); 60] = [
 /// A request aimed at one of the replies 0 and 2 to 9.
 pub fn aimed(rng: &mut Rng, table: &Table) -> Request {
     let (code, aim) = AIMS[rng.between(0, AIMS.len() as u64 - 1) as usize];
-    let mut request = if code == 7 {
-        allocate(rng, table, aim)
-    } else {
-        through_slot(rng, table, code, aim)
+    let mut request = match Code::of(code).expect("every aim has a request") {
+        Code::Allocate => allocate(rng, table, aim),
+        through => through_slot(rng, table, through, aim),
     };
     match rng.between(0, 15) {
         0 => put_out_of_range(rng, &mut request),
@@ -35,7 +34,7 @@ pub fn aimed(rng: &mut Rng, table: &Table) -> Request {
 }
 
 /// A request with every field in range, without regard to any table.
-pub fn in_range(rng: &mut Rng, code: u8, actor: u8, t: u8) -> Request {
+pub fn in_range(rng: &mut Rng, code: Code, actor: u8, t: u8) -> Request {
     let bits = rng.bits();
     let word = if bits & 64 == 0 {
         (bits >> 32) as u32
@@ -44,19 +43,19 @@ pub fn in_range(rng: &mut Rng, code: u8, actor: u8, t: u8) -> Request {
     };
     let (i, j) = (bits as u8 & 7, (bits >> 3) as u8 & 7);
     match code {
-        1 => Request::Read { actor, t },
-        2 => Request::Write { actor, t, word },
-        3 => Request::Fetch { actor, t, i, j },
-        4 => Request::Store { actor, t, i, j },
-        5 => Request::Revoke { actor, t, j },
-        6 => Request::Send {
+        Code::Read => Request::Read { actor, t },
+        Code::Write => Request::Write { actor, t, word },
+        Code::Fetch => Request::Fetch { actor, t, i, j },
+        Code::Store => Request::Store { actor, t, i, j },
+        Code::Revoke => Request::Revoke { actor, t, j },
+        Code::Send => Request::Send {
             actor,
             t,
             word,
             list: pairs(rng, MAX_PAIRS as u64),
             reply: rng.byte(0, NO_REPLY),
         },
-        7 => Request::Allocate {
+        Code::Allocate => Request::Allocate {
             actor,
             n: rng.byte(0, 63),
             kind: rng.byte(0, ACTIVE),
@@ -64,7 +63,7 @@ pub fn in_range(rng: &mut Rng, code: u8, actor: u8, t: u8) -> Request {
             i,
             list: pairs(rng, MAX_PAIRS as u64),
         },
-        _ => Request::Destroy { actor, t },
+        Code::Destroy => Request::Destroy { actor, t },
     }
 }
 
@@ -85,7 +84,7 @@ fn can_act(record: &Record) -> bool {
 }
 
 /// A request whose actor has a slot that leads to the reply, if there is one in the table.
-fn through_slot(rng: &mut Rng, table: &Table, code: u8, aim: u8) -> Request {
+fn through_slot(rng: &mut Rng, table: &Table, code: Code, aim: u8) -> Request {
     let (first_actor, first_slot) = (rng.byte(0, 63), rng.byte(0, 7));
     let mut fallback = first_actor;
     for k in 0..OBJECTS as u8 {
@@ -105,7 +104,7 @@ fn through_slot(rng: &mut Rng, table: &Table, code: u8, aim: u8) -> Request {
 }
 
 /// Does the actor's slot lead a request of the code to the reply?
-fn leads_to(table: &Table, code: u8, aim: u8, actor: u8, t: u8) -> bool {
+fn leads_to(table: &Table, code: Code, aim: u8, actor: u8, t: u8) -> bool {
     let used = table.record(actor).slots[usize::from(t)];
     if used.is_empty() {
         return aim == 4;
@@ -113,17 +112,15 @@ fn leads_to(table: &Table, code: u8, aim: u8, actor: u8, t: u8) -> bool {
     let Some(target) = table.records.get(usize::from(used.target)) else {
         return false;
     };
-    let needed = match code {
-        1 | 3 => RD | WK,
-        6 => TX,
-        _ => WR,
+    let Some(needed) = code.needs() else {
+        return false;
     };
     if !target.is_alive() || !used.has_any(needed) {
         return aim == if target.is_alive() { 6 } else { 5 };
     }
     match code {
-        6 if !target.is_active() => aim == 7,
-        8 if used.target == actor => aim == 8,
+        Code::Send if !target.is_active() => aim == 7,
+        Code::Destroy if used.target == actor => aim == 8,
         _ => aim == 0,
     }
 }
@@ -140,7 +137,7 @@ fn allocate(rng: &mut Rng, table: &Table, aim: u8) -> Request {
     let maker = find(rng, table, |record| can_act(record) && record.stock != 0);
     let actor = maker.or_else(|| find(rng, table, can_act)).unwrap_or(0);
     let stock = table.record(actor).stock;
-    let mut request = in_range(rng, 7, actor, 0);
+    let mut request = in_range(rng, Code::Allocate, actor, 0);
     if let Request::Allocate { n, part, .. } = &mut request {
         *n = number_of(rng, stock);
         *part &= stock & !(1 << *n);

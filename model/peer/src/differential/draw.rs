@@ -2,7 +2,7 @@
 
 use yavrinks_model::generate::{any_request, bounded_fields};
 use yavrinks_model::rng::Rng;
-use yavrinks_model::step::Request;
+use yavrinks_model::step::{Code, Request};
 use yavrinks_model::table::Table;
 use yavrinks_model::wire::{encode, request_in};
 
@@ -40,9 +40,23 @@ fn no_request(bytes: Vec<u8>) -> Ask {
     }
 }
 
+/// The code of a request.
+fn known_code(rng: &mut Rng) -> Code {
+    rng.pick(&Code::ALL).unwrap_or(Code::Read)
+}
+
+/// One of the two codes that have a list.
+fn listed_code(rng: &mut Rng) -> Code {
+    if rng.percent(50) {
+        Code::Send
+    } else {
+        Code::Allocate
+    }
+}
+
 /// A known code, and any byte in every field.
 fn random_fields(rng: &mut Rng) -> Request {
-    let code = rng.byte(1, 8);
+    let code = known_code(rng);
     let mut request = in_range(rng, code, 0, 0);
     for (field, _) in bounded_fields(&mut request) {
         *field = rng.bits() as u8;
@@ -66,7 +80,7 @@ fn unknown_code(rng: &mut Rng) -> Ask {
 fn long_list(rng: &mut Rng, table: &Table) -> Request {
     let mut request = aimed(rng, table);
     if !matches!(request, Request::Send { .. } | Request::Allocate { .. }) {
-        let code = rng.byte(6, 7);
+        let code = listed_code(rng);
         request = in_range(rng, code, request.actor(), 0);
     }
     let length = if rng.percent(80) {
@@ -109,10 +123,10 @@ fn too_long(rng: &mut Rng, table: &Table) -> Ask {
 
 /// A send or an allocate whose count is not that of its pairs.
 fn wrong_count(rng: &mut Rng, table: &Table) -> Ask {
-    let code = rng.byte(6, 7);
+    let code = listed_code(rng);
     let actor = aimed(rng, table).actor();
     let mut bytes = encode(&in_range(rng, code, actor, 0));
-    let place = if code == 6 { 7 } else { 13 };
+    let place = if code == Code::Send { 7 } else { 13 };
     let count = bytes[place];
     while bytes[place] == count {
         bytes[place] = if rng.percent(80) {
@@ -130,7 +144,7 @@ fn random_bytes(rng: &mut Rng) -> Ask {
     let mut bytes = any_bytes(rng, length);
     if let Some(code) = bytes.first_mut() {
         if rng.percent(60) {
-            *code = rng.byte(1, 8);
+            *code = known_code(rng).number();
         }
     }
     Ask {
