@@ -79,6 +79,18 @@ pub extern "C" fn captable_step(table: &mut Table, request: &[u8]) -> u8
     a.number
 }
 
+// The lent step by value, on a local that is lent for the call: whoever calls this one has no reference to a table, and needs no walk.
+pub fn stepped_in_place(table: Table, request: &[u8]) -> Outcome
+    ensures { λ o. ⌜ o ≡ stepped (stepOf table (askFrom (now (request .entry)))) ⌝ }
+{
+    let mut held = table;
+    let number = captable_step(&mut held, request);
+    Outcome {
+        table: held,
+        number: number,
+    }
+}
+
 // Potential access, answered whole; for a table that is not sound the number 1 and no rights.
 #[no_mangle]
 pub extern "C" fn captable_access(table: Table) -> Relation

@@ -121,7 +121,8 @@ pub fn requests(table: &Table) -> Vec<(String, Request)> {
     let done = Code::ALL
         .into_iter()
         .filter_map(|code| Some((name(code).to_string(), find_request(table, code, 0)?)));
-    let refused = find_request(table, Code::Write, 6).map(|request| (String::from("refused write"), request));
+    let refused =
+        find_request(table, Code::Write, 6).map(|request| (String::from("refused write"), request));
     let nonsense = Request::Unknown { code: 99, actor: 2 };
     done.chain(refused)
         .chain([(String::from("nonsense code"), nonsense)])

@@ -111,13 +111,7 @@ fn slot_serves(table: &Table, actor: u8, code: Code, t: u8) -> bool {
 }
 
 /// A request with the code that uses slot t, if it uses one.
-fn request_through(
-    rng: &mut Rng,
-    table: &Table,
-    actor: u8,
-    code: Code,
-    t: u8,
-) -> Option<Request> {
+fn request_through(rng: &mut Rng, table: &Table, actor: u8, code: Code, t: u8) -> Option<Request> {
     let own = table.record(actor);
     let target = table.record(own.slots[usize::from(t)].target);
     let word = rng.between(0, 99) as u32;

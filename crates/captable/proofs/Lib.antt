@@ -1,0 +1,3 @@
+-- What the proofs of the calls share.
+pub mod Lies
+pub mod Values
