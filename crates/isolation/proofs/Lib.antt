@@ -12,5 +12,4 @@ pub mod CleanStep
 pub mod Runs
 pub mod Start
 pub mod TwoRuns
-pub mod EitherForm
 pub mod Witness

@@ -1,3 +1,0 @@
--- What the two walks share.
-pub mod Values
-pub mod Lies

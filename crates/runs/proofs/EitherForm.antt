@@ -1,0 +1,107 @@
+-- Demand 3 for the calls that the firmware links, `either-form`: two runs whose steps are taken now by value, now on the lent table, from
+-- tables that were lent or read from images. A run of the calls ends with the table of the definition's run and gave the numbers of its
+-- replies, so the two-run theorem covers it: the clean objects, their records and slots in the tables that are there at the end, and the
+-- numbers that came back. That each is a table comes from owning it or from the image's bytes. Assumes nothing.
+use mathlib.Core.Path.{_≡_, refl, sym, _∙_, ap, ap₂, subst}
+use mathlib.Core.Bool.{true, false}
+use mathlib.Core.List.{List, [], _∷_}
+use Prim.Native.Nat.{ℕ}
+use lib.Dec.{eqb}
+use borrow.Author.Tests.{eq-eqb, eqb-true}
+use Rattle.mask.proofs.Tests.{byCases}
+use Rattle.table.specs.declared.Capability.{Capability}
+use Rattle.table.specs.declared.Table.{Table}
+use Rattle.table.specs.Cells.{IsTable}
+use Rattle.table.proofs.Value.{value-is-table}
+use Rattle.requests.specs.Asks.{Ask, actorOf}
+use Rattle.refusals.specs.declared.Reply.{Reply}
+use Rattle.refusals.specs.Replies.{number}
+use Rattle.refusals.specs.Refusals.{refusal}
+use Rattle.steps.specs.declared.Stepped.{Stepped}
+use Rattle.steps.specs.Steps.{after, stepOf, runTable, runReplies}
+use Rattle.confinement.specs.StandIn.{boundOf}
+use Rattle.confinement.specs.Refusals.{verdictOf, verdictNumber}
+use Rattle.confinement.specs.Tests.{isAccepted, testOf}
+use Rattle.confinement.specs.declared.Tested.{Tested}
+use Rattle.image.proofs.Typed.{read-is-table}
+use Rattle.wire.specs.Wires.{askFrom}
+use Rattle.wire.specs.Entries.{entriesIn}
+use Rattle.isolation.specs.Clean.{Clean, cleanAtStart, cleanAfter, cleanAtEnd, cleanReplies}
+use Rattle.isolation.specs.Demand.{AgreeOn, BothAccepted, TwoRuns}
+use Rattle.isolation.proofs.TwoRuns.{two-runs}
+use Rattle.captable.specs.declared.Outcome.{Outcome}
+use Rattle.captable.specs.Crossing.{stepped}
+use Rattle.runs.specs.Runs.{Had, owned, read, Taken, none, by-value, lent, asksOf, cleanNumbers, BothTested, AlikeTaken, SameTaken, TwoRunsTaken}
+
+-- a table that the firmware has is one --------------------------------------------------
+pub had-table : {t : Table} → Had t → IsTable t
+had-table {t} (owned vs is) = value-is-table t vs is
+had-table (read image b e) = rw e (read-is-table image b)
+
+-- an accepted test ----------------------------------------------------------------------------
+module _ (t : Table) (members : ℕ) (list : List Capability) where
+  test-verdict : verdictNumber (testOf t members list .verdict) ≡ 0 → verdictNumber (verdictOf t members list) ≡ 0
+  unfolding testOf
+  test-verdict e = byCases (isAccepted (verdictOf t members list)) (λ a. eqb-true (verdictNumber (verdictOf t members list)) 0 a)
+      (λ a. rw (a, testOf) at e)
+
+  test-bound : verdictNumber (verdictOf t members list) ≡ 0 → testOf t members list .bound ≡ boundOf t members list
+  unfolding testOf
+  test-bound e = rw (eq-eqb (verdictNumber (verdictOf t members list)) 0 e, testOf) refl
+
+-- a run of the calls is the definition's run ----------------------------------------------
+unfoldable numbersOf : List Reply → List ℕ
+numbersOf [] = []
+numbersOf (r ∷ rs) = number r ∷ numbersOf rs
+
+taken-run : {t u : Table} {bss : List (List ℕ)} {ns : List ℕ} → Taken t bss u ns → (u ≡ runTable t (asksOf bss)) × (ns ≡ numbersOf (runReplies t (asksOf bss)))
+unfolding asksOf runTable runReplies numbersOf stepOf
+taken-run none = (refl, refl)
+taken-run (by-value {bss = bss} o e k) =
+    let p = taken-run k in
+    (p .0 ∙ ap (λ (x : Outcome). runTable (x .table) (asksOf bss)) e,
+    ap₂ (λ (x : Outcome) (l : List ℕ). x .number ∷ l) e (p .1 ∙ ap (λ (x : Outcome). numbersOf (runReplies (x .table) (asksOf bss))) e))
+taken-run (lent {bss = bss} e f k) =
+    let p = taken-run k in
+    (p .0 ∙ ap (λ (x : Table). runTable x (asksOf bss)) f,
+    ap₂ (λ (x : ℕ) (l : List ℕ). x ∷ l) e (p .1 ∙ ap (λ (x : Table). numbersOf (runReplies x (asksOf bss))) f))
+
+-- the numbers to clean requests are those of the clean replies
+clean-numbers : (t : Table) (C : Clean) (qs : List Ask) → cleanNumbers t C qs (numbersOf (runReplies t qs)) ≡ numbersOf (cleanReplies t C qs)
+unfolding cleanNumbers numbersOf runReplies cleanReplies
+clean-numbers t C [] = refl
+clean-numbers t C (q ∷ qs) = byCases (C (actorOf q))
+    (λ e. rw (e, cleanNumbers, cleanReplies) (ap (λ (l : List ℕ). number (refusal t q) ∷ l) (clean-numbers (after t q) (cleanAfter C q (refusal t q)) qs)))
+    (λ e. rw (e, cleanNumbers, cleanReplies) (clean-numbers (after t q) (cleanAfter C q (refusal t q)) qs))
+
+-- the theorem ---------------------------------------------------------------------------------
+module _ (t u : Table) (members : ℕ) (list : List ℕ) (b : BothTested t u members list) where
+  accepted : BothAccepted t u members (entriesIn list)
+  accepted = record {
+    left = had-table (b .left);
+    right = had-table (b .right);
+    accepted-left = test-verdict t members (entriesIn list) (b .accepted-left);
+    accepted-right = test-verdict u members (entriesIn list) (b .accepted-right);
+    agree = b .agree;
+  }
+
+pub either-form : TwoRunsTaken
+unfolding TwoRunsTaken TwoRuns
+either-form t u members list b =
+    let a = accepted t u members list b in
+    let s = two-runs t u members (entriesIn list) a in
+    record {
+      bound = test-bound t members (entriesIn list) (a .accepted-left) ∙ s .bound ∙ sym (test-bound u members (entriesIn list) (a .accepted-right));
+      runs = λ ps qs v w ms ns k l e.
+          let x = s .runs (asksOf ps) (asksOf qs) e in
+          let p = taken-run k in
+          let q = taken-run l in
+          record {
+            clean = x .clean;
+            cells = rw (p .0, q .0) (x .cells);
+            numbers =
+                ap (cleanNumbers t (cleanAtStart t members (entriesIn list)) (asksOf ps)) (p .1) ∙ clean-numbers t _ (asksOf ps)
+                ∙ ap numbersOf (x .replies)
+                ∙ sym (ap (cleanNumbers u (cleanAtStart u members (entriesIn list)) (asksOf qs)) (q .1) ∙ clean-numbers u _ (asksOf qs));
+          };
+    }
