@@ -58,13 +58,15 @@ taken-run : {t u : Table} {bss : List (List ℕ)} {ns : List ℕ} → Taken t bs
 unfolding asksOf runTable runReplies numbersOf stepOf
 taken-run none = (refl, refl)
 taken-run (by-value {bss = bss} o e k) =
-    let p = taken-run k in
-    (p .0 ∙ ap (λ (x : Outcome). runTable (x .table) (asksOf bss)) e,
-    ap₂ (λ (x : Outcome) (l : List ℕ). x .number ∷ l) e (p .1 ∙ ap (λ (x : Outcome). numbersOf (runReplies (x .table) (asksOf bss))) e))
+    let p = taken-run k in (
+      p .0 ∙ ap (λ (x : Outcome). runTable (x .table) (asksOf bss)) e,
+      ap₂ (λ (x : Outcome) (l : List ℕ). x .number ∷ l) e (p .1 ∙ ap (λ (x : Outcome). numbersOf (runReplies (x .table) (asksOf bss))) e),
+    )
 taken-run (lent {bss = bss} e f k) =
-    let p = taken-run k in
-    (p .0 ∙ ap (λ (x : Table). runTable x (asksOf bss)) f,
-    ap₂ (λ (x : ℕ) (l : List ℕ). x ∷ l) e (p .1 ∙ ap (λ (x : Table). numbersOf (runReplies x (asksOf bss))) f))
+    let p = taken-run k in (
+      p .0 ∙ ap (λ (x : Table). runTable x (asksOf bss)) f,
+      ap₂ (λ (x : ℕ) (l : List ℕ). x ∷ l) e (p .1 ∙ ap (λ (x : Table). numbersOf (runReplies x (asksOf bss))) f),
+    )
 
 -- the numbers to clean requests are those of the clean replies
 clean-numbers : (t : Table) (C : Clean) (qs : List Ask) → cleanNumbers t C qs (numbersOf (runReplies t qs)) ≡ numbersOf (cleanReplies t C qs)

@@ -76,11 +76,12 @@ pub fn of_space(bytes: &[u8; 4096]) -> u32 {
     all
 }
 
-pub fn of_rows(rows: [u64; 256]) -> u32 {
+// The words of a relation or of links.
+pub fn of_words(words: &[u64]) -> u32 {
     let mut all = START;
     let mut i: usize = 0;
-    while i < 256 {
-        all = with_number(all, rows[i], 8);
+    while i < words.len() {
+        all = with_number(all, words[i], 8);
         i = i + 1;
     }
     all

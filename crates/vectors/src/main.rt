@@ -6,6 +6,7 @@ use turns::Turn;
 mod digest; // digest.rt: a short number for a table, a buffer or a relation
 mod images; // images.rt: images read, and tables written
 mod input; // input.rt: tables, requests and lists out of a case's bytes
+mod linked; // linked.rt: links
 mod output; // output.rt: the words and numbers of a line
 mod relations; // relations.rt: potential access
 mod turns; // turns.rt: requests
@@ -20,6 +21,7 @@ enum Part {
     Lent,
     Tests,
     Relations,
+    Links,
 }
 
 // One case, or the end of the file. Only a chain uses and changes the table.
@@ -32,6 +34,7 @@ fn turn(part: Part, fd: i32, number: u64, t: table::Table) -> Turn {
         Part::Lent => turns::link(fd, number, t, true),
         Part::Tests => turns::kept(verdicts::case(fd, number), t),
         Part::Relations => turns::kept(relations::case(fd, number), t),
+        Part::Links => turns::kept(linked::case(fd, number), t),
     }
 }
 
@@ -56,7 +59,7 @@ fn cases(part: Part, fd: i32, start: table::Table) -> u64 {
 fn start(part: Part, fd: i32) -> table::Table {
     match part {
         Part::Chain | Part::Lent => turns::chain_start(fd),
-        Part::Images | Part::Writes | Part::Steps | Part::Tests | Part::Relations =>
+        Part::Images | Part::Writes | Part::Steps | Part::Tests | Part::Relations | Part::Links =>
             table::unborn_table(),
     }
 }
@@ -111,5 +114,10 @@ fn main() {
         Part::Relations,
         b"access",
         b"potential access: case, number, relation\n",
+    );
+    run(
+        Part::Links,
+        b"tests",
+        b"links of the same: case, table's links, with the list's holder, what it reaches\n",
     );
 }

@@ -9,7 +9,7 @@ fn answer(number: u64, s: &[u8]) {
     let rows = found.rows;
     output::number(number);
     output::number(numbers::of_access(reply) as u64);
-    output::digest(digest::of_rows(rows));
+    output::digest(digest::of_words(&rows));
     output::text(b"\n");
 }
 

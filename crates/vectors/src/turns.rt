@@ -60,7 +60,7 @@ pub fn link(fd: i32, number: u64, t: Table, in_place: bool) -> Turn {
     let request = input::request(&bytes, 0);
     let list = input::pair_list(&bytes, 0);
     let stepped = if in_place {
-        lent::step_lent(t, request, list)
+        steps::step(t, request, list)
     } else {
         steps::step(t, request, list)
     };

@@ -1,14 +1,15 @@
--- `vectors::digest::of_rows` is safe and ends: the measure is the number of rows left. Assumes nothing.
+-- `of_words` is safe and ends: the measure is the number of words left. Assumes nothing.
 use Prim.Native.Nat.{_≤_, _-_}
+use lib.ListN.{length}
 use borrow.Author.Needs.{needs}
-use Rattle.vectors.proofs.digest.of_rows.Statement.{statement}
-use Rattle.vectors.proofs.digest.of_rows.Tie as tie
+use Rattle.vectors.proofs.digest.of_words.Statement.{statement}
+use Rattle.vectors.proofs.digest.of_words.Tie as tie
 
 abbrev Inv-loop : tie.InvT-loop
-Inv-loop rows all₀ i₀ all i = i ≤ 256
+Inv-loop words all₀ i₀ all i = i ≤ length words
 
 abbrev μ-loop : tie.MeasureT-loop
-μ-loop rows all₀ i₀ all i = 256 - i
+μ-loop words all₀ i₀ all i = length words - i
 
 loop-holds : tie.Need-loop-holds Inv-loop μ-loop
 loop-holds c = search needs
@@ -16,8 +17,8 @@ loop-holds c = search needs
 mul-with-number : tie.Need-mul-with-number Inv-loop μ-loop
 mul-with-number c = search needs
 
-array-read-with-number : tie.Need-array-read-with-number Inv-loop μ-loop
-array-read-with-number c = search needs
+shared-slice-read-with-number : tie.Need-shared-slice-read-with-number Inv-loop μ-loop
+shared-slice-read-with-number c = search needs
 
 with-number-requires : tie.Need-with-number-requires Inv-loop μ-loop
 with-number-requires c κs = search needs
@@ -34,15 +35,15 @@ loop-again c = search needs
 returns : tie.Need-returns Inv-loop μ-loop
 returns c = search needs
 
-pub of-rows-spec : {M : Type 1} → statement M
-of-rows-spec =
+pub of-words-spec : {M : Type 1} → statement M
+of-words-spec =
     tie.close
     (tie.spec
     Inv-loop
     μ-loop
     loop-holds
     mul-with-number
-    array-read-with-number
+    shared-slice-read-with-number
     with-number-requires
     add-i
     loop-less
