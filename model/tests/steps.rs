@@ -191,10 +191,14 @@ fn used_slot_causes(table: &Table, request: &Request) -> Vec<u8> {
     if used == Capability::EMPTY {
         return vec![4];
     }
-    let needed = match request.code() {
-        1 | 3 => RD | WK,
-        6 => TX,
-        _ => WR,
+    let needed = match request {
+        Request::Read { .. } | Request::Fetch { .. } => RD | WK,
+        Request::Send { .. } => TX,
+        Request::Write { .. }
+        | Request::Store { .. }
+        | Request::Revoke { .. }
+        | Request::Destroy { .. } => WR,
+        Request::Allocate { .. } | Request::Unknown { .. } => panic!("no slot is used"),
     };
     let target = table.record(used.target);
     let met = [
