@@ -126,7 +126,7 @@ pub extern "C" fn captable_test(table: Table, members: u64, list: &[u8]) -> Find
 pub extern "C" fn captable_read(image: &[u8]) -> Outcome
     ensures { λ r. ⌜ r ≡ loaded (readOf (now (image .entry))) ⌝ }
 {
-    let l = image::read(image);
+    let l = image::reading::read(image);
     let reply = l.reply;
     let table = l.table;
     let number = numbers::of_read(reply);
@@ -142,7 +142,7 @@ pub extern "C" fn captable_write(table: Table, buffer: &mut [u8]) -> u8
     ensures number { λ r. ⌜ r ≡ writeNumber (writeRefusal table (now (buffer .entry))) ⌝ }
     ensures left { λ _. ⌜ now (buffer .exit) ≡ writtenOf table (now (buffer .entry)) ⌝ }
 {
-    let reply = image::write(table, buffer);
+    let reply = image::writing::write(table, buffer);
     numbers::of_write(reply)
 }
 

@@ -1,4 +1,5 @@
 -- The laws that the proofs cite, and the theorems on round trips.
+pub mod Fields
 pub mod Places
 pub mod Load
 pub mod Store

@@ -3,10 +3,10 @@
 use mathlib.Core.Path.{_≡_, refl, sym, _∙_, ap}
 use mathlib.Core.Logic.{_≢_}
 use mathlib.Core.Bool.{Bool, true, false, not, _||_}
-use mathlib.Core.List.{List, _++_}
+use mathlib.Core.List.{List}
 use Prim.Native.Nat.{ℕ, _≤_, _<_}
 use lib.Dec.{eqb}
-use lib.ListN.{length, take, drop}
+use lib.ListN.{length, take}
 use borrow.Author.Tests.{lt-ltb, le-ltb, eq-eqb, ne-eqb, eqb-false}
 use Rattle.mask.proofs.Tests.{byCases, byEq, or-left, or-right}
 use Rattle.table.specs.declared.Table.{Table}
@@ -16,85 +16,87 @@ use Rattle.image.specs.declared.ReadReply.the-variants as R
 use Rattle.image.specs.declared.WriteReply.{WriteReply}
 use Rattle.image.specs.declared.WriteReply.the-variants as W
 use Rattle.octets.specs.BigEndian.{byteAt, numberOf}
-use Rattle.image.specs.Layout.{imageLength, version, imageOf, tableFrom}
-use Rattle.image.specs.Images.{readNumber, writeNumber, readRefusal, refusedRead, readOf, writeRefusal, writtenOf}
+use Rattle.image.specs.Layout.{Version, one, versionByte, imageLength, tableFrom}
+use Rattle.image.specs.Images.{readNumber, writeNumber, refusalAs, readRefusal, refusedRead, readOf, writeRefusal, filledBy, writtenOf}
 
 -- reading ------------------------------------------------------------------------------
--- all that an image is checked for
-pub record Accepted (bytes : List ℕ) : Type 0 where
-  pub long : length bytes ≡ imageLength
-  pub says : numberOf (take 2 bytes) ≡ imageLength
-  pub versed : byteAt bytes 2 ≡ version
-  pub fine : sound (tableFrom bytes) ≡ true
+-- all that bytes are checked for, as an image of a version
+pub record Accepted (v : Version) (bytes : List ℕ) : Type 0 where
+  pub long : length bytes ≡ imageLength v
+  pub says : numberOf (take 2 bytes) ≡ imageLength v
+  pub versed : byteAt bytes 2 ≡ versionByte v
+  pub fine : sound (tableFrom v bytes) ≡ true
 
-module _ (bytes : List ℕ) where
+module _ (v : Version) (bytes : List ℕ) where
   -- the two halves of the test of refusal 14
   abbrev misfit : Bool
-  misfit = not (eqb (length bytes) imageLength)
+  misfit = not (eqb (length bytes) (imageLength v))
 
   abbrev missaid : Bool
-  missaid = not (eqb (numberOf (take 2 bytes)) imageLength)
+  missaid = not (eqb (numberOf (take 2 bytes)) (imageLength v))
 
-  pub refusal-length : length bytes ≢ imageLength → readRefusal bytes ≡ R.LengthWrong
-  unfolding readRefusal
-  refusal-length h = rw (or-left misfit missaid (ap not (ne-eqb _ _ h)), readRefusal) refl
+  pub refusal-length : length bytes ≢ imageLength v → refusalAs v bytes ≡ R.LengthWrong
+  unfolding refusalAs
+  refusal-length h = rw (or-left misfit missaid (ap not (ne-eqb _ _ h)), refusalAs) refl
 
-  pub refusal-field : numberOf (take 2 bytes) ≢ imageLength → readRefusal bytes ≡ R.LengthWrong
-  unfolding readRefusal
-  refusal-field h = rw (or-right misfit missaid (ap not (ne-eqb _ _ h)), readRefusal) refl
+  pub refusal-field : numberOf (take 2 bytes) ≢ imageLength v → refusalAs v bytes ≡ R.LengthWrong
+  unfolding refusalAs
+  refusal-field h = rw (or-right misfit missaid (ap not (ne-eqb _ _ h)), refusalAs) refl
 
-  module _ (long : length bytes ≡ imageLength) (says : numberOf (take 2 bytes) ≡ imageLength) where
+  module _ (long : length bytes ≡ imageLength v) (says : numberOf (take 2 bytes) ≡ imageLength v) where
     fits : (misfit || missaid) ≡ false
     fits = rw (eq-eqb _ _ long, eq-eqb _ _ says) refl
 
-    pub refusal-version : byteAt bytes 2 ≢ version → readRefusal bytes ≡ R.VersionWrong
-    unfolding readRefusal
-    refusal-version h = rw (fits, ne-eqb _ _ h, readRefusal) refl
+    pub refusal-version : byteAt bytes 2 ≢ versionByte v → refusalAs v bytes ≡ R.VersionWrong
+    unfolding refusalAs
+    refusal-version h = rw (fits, ne-eqb _ _ h, refusalAs) refl
 
-    pub refusal-unsound : byteAt bytes 2 ≡ version → sound (tableFrom bytes) ≡ false → readRefusal bytes ≡ R.TableUnsound
-    unfolding readRefusal
-    refusal-unsound h e = rw (fits, eq-eqb _ _ h, e, readRefusal) refl
+    pub refusal-unsound : byteAt bytes 2 ≡ versionByte v → sound (tableFrom v bytes) ≡ false → refusalAs v bytes ≡ R.TableUnsound
+    unfolding refusalAs
+    refusal-unsound h e = rw (fits, eq-eqb _ _ h, e, refusalAs) refl
 
-  pub refusal-none : Accepted bytes → readRefusal bytes ≡ R.Done
-  unfolding readRefusal
-  refusal-none a = rw (fits (a .long) (a .says), eq-eqb _ _ (a .versed), a .fine, readRefusal) refl
+  pub refusal-none : Accepted v bytes → refusalAs v bytes ≡ R.Done
+  unfolding refusalAs
+  refusal-none a = rw (fits (a .long) (a .says), eq-eqb _ _ (a .versed), a .fine, refusalAs) refl
 
-  pub read-refused : (why : ReadReply) → readRefusal bytes ≡ why → eqb (readNumber why) 0 ≡ false → readOf bytes ≡ refusedRead why
-  unfolding readOf
-  read-refused why e h = rw (e, h, readOf) (ap refusedRead e)
-
-  pub read-done : Accepted bytes → readOf bytes ≡ record { reply = R.Done; table = tableFrom bytes }
-  unfolding readOf
-  read-done a = rw (refusal-none a, readOf) refl
-
-  -- an image that was read passed every check, since each check that fails has a number of its own
-  no : (why : ReadReply) → readNumber (readRefusal bytes) ≡ 0 → eqb (readNumber why) 0 ≡ false → readRefusal bytes ≡ why → ⊥
+  -- what was not refused passed every check, since each check that fails has a number of its own
+  no : (why : ReadReply) → readNumber (refusalAs v bytes) ≡ 0 → eqb (readNumber why) 0 ≡ false → refusalAs v bytes ≡ why → ⊥
   no why e q r = eqb-false (readNumber why) 0 q (ap readNumber (sym r) ∙ e)
 
-  pub accepted : readNumber (readRefusal bytes) ≡ 0 → Accepted bytes
+  pub accepted : readNumber (refusalAs v bytes) ≡ 0 → Accepted v bytes
   accepted e =
-      byEq (length bytes) imageLength
-      (λ long. byEq (numberOf (take 2 bytes)) imageLength
-      (λ says. byEq (byteAt bytes 2) version
-      (λ versed. byCases (sound (tableFrom bytes))
+      byEq (length bytes) (imageLength v)
+      (λ long. byEq (numberOf (take 2 bytes)) (imageLength v)
+      (λ says. byEq (byteAt bytes 2) (versionByte v)
+      (λ versed. byCases (sound (tableFrom v bytes))
       (λ fine. record { long = long; says = says; versed = versed; fine = fine })
       (λ q. absurd (no R.TableUnsound e refl (refusal-unsound long says versed q))))
       (λ q. absurd (no R.VersionWrong e refl (refusal-version long says q))))
       (λ q. absurd (no R.LengthWrong e refl (refusal-field q))))
       (λ q. absurd (no R.LengthWrong e refl (refusal-length q)))
 
--- writing ------------------------------------------------------------------------------
+-- version 1 is what is read
+module _ (bytes : List ℕ) where
+  pub read-refused : (why : ReadReply) → readRefusal bytes ≡ why → eqb (readNumber why) 0 ≡ false → readOf bytes ≡ refusedRead why
+  unfolding readOf
+  read-refused why e h = rw (e, h, readOf) (ap refusedRead e)
+
+  pub read-done : Accepted one bytes → readOf bytes ≡ record { reply = R.Done; table = tableFrom one bytes }
+  unfolding readOf
+  read-done a = rw (refusal-none one bytes a, readOf) refl
+
+-- writing, which is version 1 too -----------------------------------------------------
 module _ (t : Table) (buffer : List ℕ) where
   pub write-unsound : sound t ≡ false → writeRefusal t buffer ≡ W.TableUnsound
   unfolding writeRefusal
   write-unsound e = rw (e, writeRefusal) refl
 
   module _ (e : sound t ≡ true) where
-    pub write-short : length buffer < imageLength → writeRefusal t buffer ≡ W.BufferShort
+    pub write-short : length buffer < imageLength one → writeRefusal t buffer ≡ W.BufferShort
     unfolding writeRefusal
     write-short h = rw (e, lt-ltb _ _ h, writeRefusal) refl
 
-    pub write-done : imageLength ≤ length buffer → writeRefusal t buffer ≡ W.Done
+    pub write-done : imageLength one ≤ length buffer → writeRefusal t buffer ≡ W.Done
     unfolding writeRefusal
     write-done h = rw (e, le-ltb _ _ h, writeRefusal) refl
 
@@ -102,6 +104,6 @@ module _ (t : Table) (buffer : List ℕ) where
   unfolding writtenOf
   written-refused why e h = rw (e, h, writtenOf) refl
 
-  pub written-done : writeRefusal t buffer ≡ W.Done → writtenOf t buffer ≡ imageOf t ++ drop imageLength buffer
+  pub written-done : writeRefusal t buffer ≡ W.Done → writtenOf t buffer ≡ filledBy one t buffer
   unfolding writtenOf
   written-done e = rw (e, writtenOf) refl

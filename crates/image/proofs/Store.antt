@@ -1,11 +1,13 @@
--- What the writers leave, from what they were lent and what came back: slots, a record, the records, the image. Assumes nothing.
+-- What the writers leave, from what they were lent and what came back: slots, a record of
+-- version 1, and of any version the records and the image. Assumes nothing.
 use mathlib.Core.Path.{_≡_, refl, sym, _∙_, ap}
 use mathlib.Core.List.{List, [], _∷_, _++_, append-assoc, append-nil}
 use Prim.Native.Nat.{ℕ, _+_, _-_, _*_, _≤_, _<_}
+use native.Mathlib.Nat.{mul-suc}
 use native.Mathlib.Numerals.{add-one}
 use native.Mathlib.Omega.{arith}
 use lib.ListN.{length, getD, set, take, drop, length-append, take-append-drop, drop-of-length-le}
-use lib.Seq.{length-take-le, drop-drop, sets-eq}
+use lib.Seq.{length-take-le, take-at, drop-at, drop-drop, sets-eq}
 use borrow.Rule.Slice.PartMut.{putMid}
 use Rattle.table.specs.declared.Capability.{Capability}
 use Rattle.table.specs.declared.Table.{Table}
@@ -13,11 +15,11 @@ use Rattle.table.specs.Lists.{tabulate}
 use Rattle.table.specs.Cells.{recordAt, slotAt, emptySlot}
 use Rattle.image.specs.declared.Stored.{Stored}
 use Rattle.octets.specs.BigEndian.{bytesOf}
-use Rattle.image.specs.Layout.{imageLength, head, storedAt, slotsBytes, storedBytes, recordsBytes, imageOf}
+use Rattle.image.specs.Layout.{Version, one, head, recordLength, imageLength, placeOf, storedAt, objectBytes, slotsBytes, storedBytes, recordsBytes, imageOf}
 use Rattle.octets.proofs.BigEndian.{length-bytes}
 use Rattle.octets.proofs.Lists.{pair-more, lent-next}
 use Rattle.octets.proofs.Parts.{beside}
-use Rattle.image.proofs.Places.{length-records}
+use Rattle.image.proofs.Places.{length-head, length-records}
 
 -- the loop that writes slots: the next two bytes
 pub slots-more : (slots : List Capability) (bytes : List ℕ) (j : ℕ) → 2 * j + 1 < length bytes → take (2 * j) bytes ≡ slotsBytes slots j
@@ -25,60 +27,63 @@ pub slots-more : (slots : List Capability) (bytes : List ℕ) (j : ℕ) → 2 * 
 unfolding slotsBytes
 slots-more slots bytes j h e = pair-more bytes j _ _ h ∙ ap (λ (p : List ℕ). p ++ (getD slots j emptySlot .target ∷ getD slots j emptySlot .rights ∷ [])) e ∙ (rw add-one refl)
 
--- what the record writer leaves: two bytes, then three parts that were lent in turn
-pub stored-left : (part : List ℕ) (s : Stored) (x y z : List ℕ) (m k : ℕ) → length part ≡ 30
+-- what the record writer of version 1 leaves: two bytes, then three parts that were lent in turn
+pub stored-left : (part : List ℕ) (s : Stored) (x y z : List ℕ) (m k : ℕ) → length part ≡ recordLength one
     → m ≡ 4 → x ≡ bytesOf m (s .object .word) → k ≡ 8 → y ≡ bytesOf k (s .object .stock) → z ≡ slotsBytes (s .slots) 8
-    → putMid 14 16 (putMid 6 8 (putMid 2 4 (set (set part 0 (s .object .status)) 1 (s .object .kind)) x) y) z ≡ storedBytes s
-unfolding storedBytes
+    → putMid 14 16 (putMid 6 8 (putMid 2 4 (set (set part 0 (s .object .status)) 1 (s .object .kind)) x) y) z ≡ storedBytes one s
+unfolding storedBytes objectBytes
 stored-left part s x y z m k l em ex ek ey ez =
     let p = s .object .status ∷ s .object .kind ∷ [] in
     let fx : x ≡ bytesOf 4 (s .object .word) = ex ∙ ap (λ (i : ℕ). bytesOf i (s .object .word)) em in
     let fy : y ≡ bytesOf 8 (s .object .stock) = ey ∙ ap (λ (i : ℕ). bytesOf i (s .object .stock)) ek in
     let lx : length x ≡ 4 = ap length fx ∙ length-bytes 4 (s .object .word) in
     let ly : length y ≡ 8 = ap length fy ∙ length-bytes 8 (s .object .stock) in
-    let one = lent-next p part _ x 2 4 refl (sets-eq p part 0 (omega arith)) in
-    let two = lent-next (p ++ x) part _ y 6 8 (omega (arith, length-append p x)) one in
-    let three = lent-next ((p ++ x) ++ y) part _ z 14 16 (omega (arith, length-append p x, length-append (p ++ x) y)) two in
-    three ∙ ap (λ (r : List ℕ). (((p ++ x) ++ y) ++ z) ++ r) (drop-of-length-le part {i = 30} (omega arith)) ∙ append-nil _
-    ∙ append-assoc (p ++ x) y z ∙ append-assoc p x (y ++ z) ∙ beside {a = p} refl (beside fx (beside fy ez))
+    let first = lent-next p part _ x 2 4 refl (sets-eq p part 0 (omega arith)) in
+    let second = lent-next (p ++ x) part _ y 6 8 (omega (arith, length-append p x)) first in
+    let third = lent-next ((p ++ x) ++ y) part _ z 14 16 (omega (arith, length-append p x, length-append (p ++ x) y)) second in
+    third ∙ ap (λ (r : List ℕ). (((p ++ x) ++ y) ++ z) ++ r) (drop-of-length-le part {i = recordLength one} (omega arith)) ∙ append-nil _
+    ∙ beside (append-assoc p x y ∙ beside {a = p} refl (beside fx fy)) ez
 
--- object n with its eight slots, taken out of the table one by one
-abbrev pub takenAt : Table → ℕ → ℕ → Stored
-takenAt t n k = record {
-  object = recordAt t n;
-  slots = getD (t .slots) k emptySlot ∷ slotAt t n 1 ∷ slotAt t n 2 ∷ slotAt t n 3 ∷ slotAt t n 4 ∷ slotAt t n 5 ∷ slotAt t n 6 ∷ slotAt t n 7 ∷ [];
-}
-
-pub stored-taken : (t : Table) (n : ℕ) → takenAt t n (n * 8) ≡ storedAt t n
-unfolding storedAt tabulate
-stored-taken t n = let z : n * 8 ≡ n * 8 + 0 = omega arith in ap (takenAt t n) z
+-- object n with the eight slots that were copied out
+pub stored-taken : (t : Table) (n : ℕ) (slots : List Capability) → slots ≡ tabulate 8 (slotAt t n)
+    → record { object = recordAt t n; slots = slots } ≡ storedAt t n
+unfolding storedAt
+stored-taken t n slots e = ap (λ (l : List Capability). record { object = recordAt t n; slots = l }) e
 
 -- the loop that writes records: behind the first three bytes stand n of them, and the rest is as it was
-abbrev pub writtenTo : Table → List ℕ → ℕ → List ℕ
-writtenTo t buffer n = (take 3 buffer ++ recordsBytes t n) ++ drop (3 + 30 * n) buffer
+abbrev pub writtenTo : Version → Table → List ℕ → ℕ → List ℕ
+writtenTo v t buffer n = (take 3 buffer ++ recordsBytes v t n) ++ drop (placeOf v n) buffer
 
-module _ (t : Table) (buffer : List ℕ) where
-  pub records-none : buffer ≡ writtenTo t buffer 0
+module _ (v : Version) (t : Table) (buffer : List ℕ) where
+  pub records-none : buffer ≡ writtenTo v t buffer 0
   unfolding recordsBytes
-  records-none = sym (ap (λ (r : List ℕ). r ++ drop 3 buffer) (append-nil (take 3 buffer)) ∙ take-append-drop 3 buffer)
+  records-none =
+      let z : placeOf v 0 ≡ 3 = omega arith in
+      sym (beside (append-nil (take 3 buffer)) (ap (λ (k : ℕ). drop k buffer) z) ∙ take-append-drop 3 buffer)
 
-  pub records-more : (n : ℕ) (l ys : List ℕ) (s : Stored) → 3 ≤ length buffer → l ≡ writtenTo t buffer n → s ≡ storedAt t n → ys ≡ storedBytes s
-      → putMid (3 + 30 * n) (3 + 30 * n + 30 - (3 + 30 * n)) l ys ≡ writtenTo t buffer (n + 1)
+  pub records-more : (n : ℕ) (l ys : List ℕ) (s : Stored) → 3 ≤ length buffer → l ≡ writtenTo v t buffer n → s ≡ storedAt t n → ys ≡ storedBytes v s
+      → putMid (placeOf v n) (placeOf v n + recordLength v - placeOf v n) l ys ≡ writtenTo v t buffer (n + 1)
   unfolding recordsBytes
   records-more n l ys s h e f g =
-      let p = take 3 buffer ++ recordsBytes t n in
-      let z : length p ≡ 3 + 30 * n = omega (arith, length-append (take 3 buffer) (recordsBytes t n), length-take-le 3 buffer h, length-records t n) in
-      let k : 3 + 30 * n + (3 + 30 * n + 30 - (3 + 30 * n)) ≡ 3 + 30 * (n + 1) = omega arith in
-      lent-next p buffer l ys (3 + 30 * n) _ z e ∙ beside (append-assoc (take 3 buffer) (recordsBytes t n) ys
-      ∙ beside {a = take 3 buffer} refl (beside {a = recordsBytes t n} refl (g ∙ ap storedBytes f) ∙ (rw add-one refl))) (ap (λ (i : ℕ). drop i buffer) k)
+      let p = take 3 buffer ++ recordsBytes v t n in
+      let z : length p ≡ placeOf v n = omega (arith, length-append (take 3 buffer) (recordsBytes v t n), length-take-le 3 buffer h, length-records v t n) in
+      let k : placeOf v n + (placeOf v n + recordLength v - placeOf v n) ≡ placeOf v (n + 1) = omega (arith, mul-suc (recordLength v) n) in
+      lent-next p buffer l ys (placeOf v n) _ z e ∙ beside (append-assoc (take 3 buffer) (recordsBytes v t n) ys
+      ∙ beside {a = take 3 buffer} refl (beside {a = recordsBytes v t n} refl (g ∙ ap (storedBytes v) f) ∙ (rw add-one refl))) (ap (λ (i : ℕ). drop i buffer) k)
 
-  pub records-all : (n : ℕ) (l : List ℕ) → n ≡ 64 → l ≡ writtenTo t buffer n → l ≡ take 3 buffer ++ (recordsBytes t 64 ++ drop imageLength buffer)
-  records-all n l e h = h ∙ ap (writtenTo t buffer) e ∙ append-assoc (take 3 buffer) (recordsBytes t 64) (drop imageLength buffer)
+  pub records-all : (n : ℕ) (l : List ℕ) → n ≡ 64 → l ≡ writtenTo v t buffer n → l ≡ take 3 buffer ++ (recordsBytes v t 64 ++ drop (imageLength v) buffer)
+  records-all n l e h =
+      let k : placeOf v 64 ≡ imageLength v = omega arith in
+      h ∙ ap (writtenTo v t buffer) e ∙ append-assoc (take 3 buffer) (recordsBytes v t 64) (drop (placeOf v 64) buffer)
+      ∙ ap (λ (i : ℕ). take 3 buffer ++ (recordsBytes v t 64 ++ drop i buffer)) k
 
   -- the head was stored first
-  pub image-left : (b l : List ℕ) → b ≡ set (set (set buffer 0 0x07) 1 0x83) 2 0x01 → imageLength ≤ length buffer
-      → l ≡ take 3 b ++ (recordsBytes t 64 ++ drop imageLength b) → l ≡ imageOf t ++ drop imageLength buffer
+  pub image-left : (b l : List ℕ) → b ≡ head v ++ drop 3 buffer
+      → l ≡ take 3 b ++ (recordsBytes v t 64 ++ drop (imageLength v) b) → l ≡ imageOf v t ++ drop (imageLength v) buffer
   unfolding imageOf
-  image-left b l e h f =
-      f ∙ ap (λ (x : List ℕ). take 3 x ++ (recordsBytes t 64 ++ drop imageLength x)) (e ∙ sets-eq head buffer 0 (omega arith))
-      ∙ ap (λ (x : List ℕ). head ++ (recordsBytes t 64 ++ x)) (drop-drop 1920 3 buffer) ∙ sym (append-assoc head (recordsBytes t 64) (drop imageLength buffer))
+  image-left b l e f =
+      let at = drop-at (head v) (drop 3 buffer) 3 (length-head v) in
+      f ∙ beside (ap (take 3) e ∙ take-at (head v) (drop 3 buffer) 3 (length-head v))
+      (beside {a = recordsBytes v t 64} refl (ap (drop (imageLength v)) e ∙ sym (drop-drop (64 * recordLength v) 3 (head v ++ drop 3 buffer))
+      ∙ ap (drop (64 * recordLength v)) at ∙ drop-drop (64 * recordLength v) 3 buffer))
+      ∙ sym (append-assoc (head v) (recordsBytes v t 64) (drop (imageLength v) buffer))

@@ -12,7 +12,7 @@ use Rattle.table.proofs.Lists.{length-tabulate}
 use Rattle.table.proofs.Places.{at-tabulate}
 use Rattle.table.proofs.Value.{RecordValue, SlotValue, record-value, slot-value, unborn-value, empty-value, values-are-table, unborn-is-table}
 use Rattle.octets.specs.BigEndian.{numberOf}
-use Rattle.image.specs.Layout.{partOf, recordFrom, slotFrom, tableFrom}
+use Rattle.image.specs.Layout.{Version, one, partOf, recordFrom, slotFrom, tableFrom}
 use Rattle.image.specs.Images.{readNumber, readRefusal, readOf}
 use Rattle.octets.proofs.BigEndian.{Bytes, number-lt}
 use Rattle.octets.proofs.Parts.{bytes-take, bytes-drop}
@@ -24,24 +24,24 @@ number-take k bs b =
     lt-of-lt-of-le (number-lt (take k bs) (bytes-take k bs b))
     (pow-le-pow-right {n = 256} (omega arith) {i = length (take k bs)} {j = k} (simp length-take (omega arith)))
 
-record-typed : (part : List ℕ) → Bytes part → RecordValue (recordFrom part)
+record-typed : (v : Version) (part : List ℕ) → Bytes part → RecordValue (recordFrom v part)
 unfolding recordFrom
-record-typed part b =
-    record-value (recordFrom part) (b 0) (b 1)
+record-typed one part b =
+    record-value (recordFrom one part) (b 0) (b 1)
     (number-take 4 (drop 2 part) (bytes-drop 2 part b)) (number-take 8 (drop 6 part) (bytes-drop 6 part b))
 
 slot-typed : (part : List ℕ) (j : ℕ) → Bytes part → SlotValue (slotFrom part j)
 unfolding slotFrom
 slot-typed part j b = slot-value (slotFrom part j) (b (14 + 2 * j)) (b (15 + 2 * j))
 
-pub image-is-table : (bytes : List ℕ) → ((k : ℕ) → getD bytes k 0 < 2 ^ 8) → IsTable (tableFrom bytes)
+pub image-is-table : (v : Version) (bytes : List ℕ) → ((k : ℕ) → getD bytes k 0 < 2 ^ 8) → IsTable (tableFrom v bytes)
 unfolding tableFrom
-image-is-table bytes b = values-are-table (tableFrom bytes) (length-tabulate 64 _) (length-tabulate 512 _)
-    (λ n. at-tabulate RecordValue unbornRecord 64 _ n (record-typed (partOf bytes n) (bytes-part bytes n b)) unborn-value)
-    (λ k. at-tabulate SlotValue emptySlot 512 _ k (slot-typed (partOf bytes (k / 8)) (k % 8) (bytes-part bytes (k / 8) b)) empty-value)
+image-is-table v bytes b = values-are-table (tableFrom v bytes) (length-tabulate 64 _) (length-tabulate 512 _)
+    (λ n. at-tabulate RecordValue unbornRecord 64 _ n (record-typed v (partOf v bytes n) (bytes-part v bytes n b)) unborn-value)
+    (λ k. at-tabulate SlotValue emptySlot 512 _ k (slot-typed (partOf v bytes (k / 8)) (k % 8) (bytes-part v bytes (k / 8) b)) empty-value)
 
 pub read-is-table : (bytes : List ℕ) → ((k : ℕ) → getD bytes k 0 < 2 ^ 8) → IsTable (readOf bytes .table)
 unfolding readOf
 read-is-table bytes b = byCases (eqb (readNumber (readRefusal bytes)) 0)
-    (λ e. rw (e, readOf) (image-is-table bytes b))
+    (λ e. rw (e, readOf) (image-is-table one bytes b))
     (λ e. rw (e, readOf) unborn-is-table)

@@ -1,6 +1,6 @@
 -- What reading and writing return and leave. "Reading checks 14, 15, then 1; the failing read returns the unborn table.
 -- Writing checks 1, then 16"; it "fills the first 1,923 bytes and touches no byte after them".
-use mathlib.Core.Bool.{Bool, true, false, not, _||_}
+use mathlib.Core.Bool.{true, false, not, _||_}
 use mathlib.Core.List.{List, _++_}
 use Prim.Native.Nat.{ℕ}
 use lib.Dec.{ltb, eqb}
@@ -14,7 +14,7 @@ use Rattle.image.specs.declared.WriteReply.{WriteReply}
 use Rattle.image.specs.declared.WriteReply.the-variants as W
 use Rattle.image.specs.declared.Loaded.{Loaded}
 use Rattle.octets.specs.BigEndian.{byteAt, numberOf}
-use Rattle.image.specs.Layout.{imageLength, version, imageOf, tableFrom}
+use Rattle.image.specs.Layout.{Version, one, versionByte, imageLength, imageOf, tableFrom}
 
 abbrev pub readNumber : ReadReply → ℕ
 readNumber R.Done = 0
@@ -27,16 +27,21 @@ writeNumber W.Done = 0
 writeNumber W.TableUnsound = 1
 writeNumber W.BufferShort = 16
 
--- 14: "slice not 1,923 bytes, or its length field says otherwise"; then 15: "version byte not 1"; then 1
-unfoldable pub readRefusal : List ℕ → ReadReply
-readRefusal bytes =
-    elim (not (eqb (length bytes) imageLength) || not (eqb (numberOf (take 2 bytes)) imageLength)) [
+-- why bytes are no image of a version. 14: "slice not 1,923 bytes, or its length field says otherwise"; then 15: "version byte
+-- not 1"; then 1
+unfoldable pub refusalAs : Version → List ℕ → ReadReply
+refusalAs v bytes =
+    elim (not (eqb (length bytes) (imageLength v)) || not (eqb (numberOf (take 2 bytes)) (imageLength v))) [
       | true ↦ R.LengthWrong
-      | false ↦ elim (eqb (byteAt bytes 2) version) [
+      | false ↦ elim (eqb (byteAt bytes 2) (versionByte v)) [
         | false ↦ R.VersionWrong
-        | true ↦ elim (sound (tableFrom bytes)) [ false ↦ R.TableUnsound | true ↦ R.Done ]
+        | true ↦ elim (sound (tableFrom v bytes)) [ false ↦ R.TableUnsound | true ↦ R.Done ]
       ]
     ]
+
+-- images of version 1 are read
+abbrev pub readRefusal : List ℕ → ReadReply
+readRefusal bytes = refusalAs one bytes
 
 -- a refused read, with the wholly unborn table
 abbrev pub refusedRead : ReadReply → Loaded
@@ -45,16 +50,22 @@ refusedRead why = record { reply = why; table = unbornTable }
 unfoldable pub readOf : List ℕ → Loaded
 readOf bytes =
     elim (eqb (readNumber (readRefusal bytes)) 0) [
-      | true ↦ record { reply = R.Done; table = tableFrom bytes }
+      | true ↦ record { reply = R.Done; table = tableFrom one bytes }
       | false ↦ refusedRead (readRefusal bytes)
     ]
 
 -- 1, then 16: "buffer below 1,923 bytes"
 unfoldable pub writeRefusal : Table → List ℕ → WriteReply
 writeRefusal t buffer =
-    elim (sound t) [ false ↦ W.TableUnsound | true ↦ elim (ltb (length buffer) imageLength) [ true ↦ W.BufferShort | false ↦ W.Done ] ]
+    elim (sound t) [
+      | false ↦ W.TableUnsound
+      | true ↦ elim (ltb (length buffer) (imageLength one)) [ true ↦ W.BufferShort | false ↦ W.Done ]
+    ]
+
+-- a buffer with a table's image in front, and "no byte after" it touched
+abbrev pub filledBy : Version → Table → List ℕ → List ℕ
+filledBy v t buffer = imageOf v t ++ drop (imageLength v) buffer
 
 -- what the buffer holds afterwards
 unfoldable pub writtenOf : Table → List ℕ → List ℕ
-writtenOf t buffer =
-    elim (eqb (writeNumber (writeRefusal t buffer)) 0) [ true ↦ imageOf t ++ drop imageLength buffer | false ↦ buffer ]
+writtenOf t buffer = elim (eqb (writeNumber (writeRefusal t buffer)) 0) [ true ↦ filledBy one t buffer | false ↦ buffer ]

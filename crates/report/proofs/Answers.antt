@@ -14,7 +14,7 @@ use Rattle.image.specs.declared.Loaded.{Loaded}
 use Rattle.image.specs.declared.ReadReply.{ReadReply}
 use Rattle.image.specs.declared.ReadReply.the-variants as R
 use Rattle.octets.specs.BigEndian.{numberOf}
-use Rattle.image.specs.Layout.{imageLength}
+use Rattle.image.specs.Layout.{one, imageLength}
 use Rattle.image.specs.Images.{readOf, readNumber}
 use Rattle.confinement.specs.declared.EntryList.{EntryList}
 use Rattle.confinement.specs.declared.Tested.{Tested}
@@ -41,7 +41,7 @@ module _ (l : Loaded) (input : List ℕ) (why : ℕ) (e : why ≡ readNumber (l 
   unfolding loadedDecision
   loaded-accepted z = rw (ap (λ (x : ℕ). eqb x 0) (sym e) ∙ eq-eqb why 0 z, loadedDecision) refl
 
-  pub loaded-tested : why ≡ 0 → (members : ℕ) → members ≡ numberOf (take 8 (drop imageLength input)) → (list : EntryList) → list ≡ heldEntries (drop fixedLength input)
+  pub loaded-tested : why ≡ 0 → (members : ℕ) → members ≡ numberOf (take 8 (drop (imageLength one) input)) → (list : EntryList) → list ≡ heldEntries (drop fixedLength input)
       → (r : Tested) → r ≡ testOf (l .table) members (entriesOf list) → (n : ℕ) → n ≡ verdictNumber (r .verdict)
       → _≡_ {A = Decision} (record { number = n; bound = r .bound }) (loadedDecision l input)
   unfolding membersOf listOf

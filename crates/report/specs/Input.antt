@@ -7,25 +7,25 @@ use lib.Dec.{eqb}
 use lib.ListN.{length, take, drop}
 use Rattle.table.specs.declared.Capability.{Capability}
 use Rattle.octets.specs.BigEndian.{byteAt, numberOf}
-use Rattle.image.specs.Layout.{imageLength}
+use Rattle.image.specs.Layout.{one, imageLength}
 use Rattle.wire.specs.Entries.{entriesIn}
 
 -- members, count
 abbrev pub fixedLength : ℕ
-fixedLength = imageLength + 9
+fixedLength = imageLength one + 9
 
 abbrev pub countOf : List ℕ → ℕ
-countOf input = byteAt input (imageLength + 8)
+countOf input = byteAt input (imageLength one + 8)
 
 -- 17: "input of wrong length"; an input with no count byte counts none, and is too short for that
 unfoldable pub wrongLength : List ℕ → Bool
 wrongLength input = not (eqb (length input) (fixedLength + 2 * countOf input))
 
 abbrev pub imagePart : List ℕ → List ℕ
-imagePart input = take imageLength input
+imagePart input = take (imageLength one) input
 
 unfoldable pub membersOf : List ℕ → ℕ
-membersOf input = numberOf (take 8 (drop imageLength input))
+membersOf input = numberOf (take 8 (drop (imageLength one) input))
 
 -- "2 bytes (target, rights) an entry", after the count
 unfoldable pub listOf : List ℕ → List Capability

@@ -1,22 +1,23 @@
--- `image::read_table` meets its contract. The loops' invariants, `ReadTo`: how many records and slots have been read. Assumes nothing.
+-- `image::reading::read_table` meets its contract. The loops' invariants, `ReadTo`: how many records and slots have been read. Assumes nothing.
 use mathlib.Core.Path.{_≡_}
 use Prim.Native.Nat.{_≤_, _+_, _*_, _-_}
 use native.Mathlib.Nat.{add-zero}
 use native.Mathlib.Omega.{arith}
 use lib.ListN.{length-take, length-drop}
+use Rattle.image.specs.Layout.{one}
 use Rattle.image.proofs.Load.{stored-lent, ReadTo, read-none, record-more, slot-more, read-all}
 use borrow.Author.Needs.{needs}
-use Rattle.image.proofs.read_table.Statement.{statement}
-use Rattle.image.proofs.read_table.Tie as tie
+use Rattle.image.proofs.reading.read_table.Statement.{statement}
+use Rattle.image.proofs.reading.read_table.Tie as tie
 
 abbrev Inv-slots : tie.InvT-slots
-Inv-slots image t₀ n at slots j₀ t j = (j ≤ 8) × ReadTo image t (n + 1) (n * 8 + j)
+Inv-slots image t₀ n at slots j₀ t j = (j ≤ 8) × ReadTo one image t (n + 1) (n * 8 + j)
 
 abbrev μ-slots : tie.MeasureT-slots
 μ-slots image t₀ n at slots j₀ t j = 8 - j
 
 abbrev Inv-records : tie.InvT-records
-Inv-records image t₀ n₀ t n = (n ≤ 64) × ReadTo image t n (n * 8)
+Inv-records image t₀ n₀ t n = (n ≤ 64) × ReadTo one image t n (n * 8)
 
 abbrev μ-records : tie.MeasureT-records
 μ-records image t₀ n₀ t n = 64 - n
@@ -25,7 +26,7 @@ unborn-table-requires : tie.Need-unborn-table-requires Inv-slots μ-slots Inv-re
 unborn-table-requires c κs = search needs
 
 records-holds : tie.Need-records-holds Inv-slots μ-slots Inv-records μ-records
-records-holds c = (omega arith, read-none (c .before .before .args .image .now) (c .unborn-table .result) (c .unborn-table .ensures))
+records-holds c = (omega arith, read-none one (c .before .before .args .image .now) (c .unborn-table .result) (c .unborn-table .ensures))
 
 mul-at : tie.Need-mul-at Inv-slots μ-slots Inv-records μ-records
 mul-at c = search needs
@@ -57,8 +58,8 @@ element-set-from-object c = search needs
 slots-holds : tie.Need-slots-holds Inv-slots μ-slots Inv-records μ-records
 slots-holds c = let l = c .before .before .before .before .before .records in
     let b = c .before .before .before .before .before .before .before .before .args .image .now in
-    let e = stored-lent b (l .n) (c .before .before .read-record .result) (c .before .before .read-record .ensures) in
-    (omega arith, rw add-zero (record-more b (l .t) (l .n) (l .n * 8) (c .before .before .read-record .result) (omega arith) e (l .inv .1)))
+    let e = stored-lent one b (l .n) (c .before .before .read-record .result) (c .before .before .read-record .ensures) in
+    (omega arith, rw add-zero (record-more one b (l .t) (l .n) (l .n * 8) (c .before .before .read-record .result) (omega arith) e (l .inv .1)))
 
 mul-t : tie.Need-mul-t Inv-slots μ-slots Inv-records μ-records
 mul-t c = search needs
@@ -88,8 +89,8 @@ slots-again : tie.Need-slots-again Inv-slots μ-slots Inv-records μ-records
 slots-again c = let n = c .before .before .before .before .before .before .before .before .records .n in
     let l = c .before .before .slots in
     let b = c .before .before .before .before .before .before .before .before .before .before .before .args .image .now in
-    let e = stored-lent b n (c .before .before .before .before .before .read-record .result) (c .before .before .before .before .before .read-record .ensures) in
-    (omega arith, slot-more b (l .t) (n + 1) n (l .j) (c .before .before .before .before .before .read-record .result) (omega arith) (omega arith) e (l .inv .1))
+    let e = stored-lent one b n (c .before .before .before .before .before .read-record .result) (c .before .before .before .before .before .read-record .ensures) in
+    (omega arith, slot-more one b (l .t) (n + 1) n (l .j) (c .before .before .before .before .before .read-record .result) (omega arith) (omega arith) e (l .inv .1))
 
 add-n : tie.Need-add-n Inv-slots μ-slots Inv-records μ-records
 add-n c = search needs
@@ -102,7 +103,7 @@ records-again c = let e : c .before .before .before .before .before .before .bef
     (omega arith, rw e at (c .before .slots .inv .1))
 
 returns : tie.Need-returns Inv-slots μ-slots Inv-records μ-records
-returns c = let l = c .before .records in read-all (c .before .before .before .before .args .image .now) (l .t) (l .n) (l .n * 8) (omega arith) (omega arith) (l .inv .1)
+returns c = let l = c .before .records in read-all one (c .before .before .before .before .args .image .now) (l .t) (l .n) (l .n * 8) (omega arith) (omega arith) (l .inv .1)
 
 pub read-table-spec : {M : Type 1} → statement M
 read-table-spec =

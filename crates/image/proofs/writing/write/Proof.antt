@@ -1,15 +1,17 @@
--- `image::write` meets its contract: each refusal leaves the buffer, and else the head is stored first and then the records.
+-- `image::writing::write` meets its contract: each refusal leaves the buffer, and else the head is stored first and then the records.
 -- Assumes nothing.
 use mathlib.Core.Path.{refl, sym, _∙_}
 use borrow.Author.Tests.{not-true, not-false}
 use native.Mathlib.Omega.{arith}
 use lib.ListN.{length-set}
+use lib.Seq.{sets-eq}
 use Rattle.image.specs.declared.WriteReply.the-variants as W
+use Rattle.image.specs.Layout.{one, head}
 use Rattle.image.proofs.Replies.{write-unsound, write-short, write-done, written-refused, written-done}
 use Rattle.image.proofs.Store.{image-left}
 use borrow.Author.Needs.{needs}
-use Rattle.image.proofs.write.Statement.{statement}
-use Rattle.image.proofs.write.Tie as tie
+use Rattle.image.proofs.writing.write.Statement.{statement}
+use Rattle.image.proofs.writing.write.Tie as tie
 
 is-sound-requires : tie.Need-is-sound-requires
 is-sound-requires c κs = search needs
@@ -51,7 +53,7 @@ same-length c = simp length-set at (c .before .buffer .given)
 returns-3 : tie.Need-returns-3
 returns-3 c = let a = c .before .before .before .before .before .before .before .before .args in
     let e = write-done (a .t) (a .buffer .now) (sym (c .before .before .before .before .before .before .is-sound .ensures) ∙ not-false _ (c .before .before .before .before .before .if1 .left)) (c .before .before .before .before .if2 .left) in
-    (sym e, image-left (a .t) (a .buffer .now) _ _ refl (c .before .before .before .before .if2 .left) (c .before .before .write-records .ensures) ∙ sym (written-done (a .t) (a .buffer .now) e))
+    (sym e, image-left one (a .t) (a .buffer .now) _ _ (sets-eq (head one) (a .buffer .now) 0 (omega arith)) (c .before .before .write-records .ensures) ∙ sym (written-done (a .t) (a .buffer .now) e))
 
 pub write-spec : {M : Type 1} → statement M
 write-spec =

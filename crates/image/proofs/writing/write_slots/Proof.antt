@@ -1,4 +1,4 @@
--- `image::write_slots` meets its contract. The loop's invariant: the first `2 * j` bytes are those of the first `j` slots. Assumes nothing.
+-- `image::writing::write_slots` meets its contract. The loop's invariant: the first `2 * j` bytes are those of the first `j` slots. Assumes nothing.
 use mathlib.Core.Path.{_≡_, refl, _∙_, sym, ap}
 use Prim.Native.Nat.{_≤_, _*_, _-_}
 use native.Mathlib.Omega.{arith}
@@ -7,8 +7,8 @@ use lib.Seq.{take-all}
 use Rattle.image.specs.Layout.{slotsBytes}
 use Rattle.image.proofs.Store.{slots-more}
 use borrow.Author.Needs.{needs}
-use Rattle.image.proofs.write_slots.Statement.{statement}
-use Rattle.image.proofs.write_slots.Tie as tie
+use Rattle.image.proofs.writing.write_slots.Statement.{statement}
+use Rattle.image.proofs.writing.write_slots.Tie as tie
 
 abbrev Inv-loop : tie.InvT-loop
 Inv-loop bytes₀ slots j₀ bytes j = (j ≤ 8) × (length bytes ≡ 16) × (take (2 * j) bytes ≡ slotsBytes slots j)

@@ -1,12 +1,12 @@
--- `image::write_record` meets its contract: two bytes are stored, and three parts lent in turn come back as their writers ensure.
+-- `image::writing::write_record` meets its contract: two bytes are stored, and three parts lent in turn come back as their writers ensure.
 -- Assumes nothing.
 use mathlib.Core.Path.{_∙_}
 use native.Mathlib.Omega.{arith}
 use lib.ListN.{length-set}
 use Rattle.image.proofs.Store.{stored-left}
 use borrow.Author.Needs.{needs}
-use Rattle.image.proofs.write_record.Statement.{statement}
-use Rattle.image.proofs.write_record.Tie as tie
+use Rattle.image.proofs.writing.write_record.Statement.{statement}
+use Rattle.image.proofs.writing.write_record.Tie as tie
 
 slice-write-part : tie.Need-slice-write-part
 slice-write-part c = search needs
