@@ -1,5 +1,5 @@
--- `image::reading::read` meets its contract: each check that fails gives its refusal, and a table that passes them all is given back.
--- Assumes nothing.
+-- `image::reading::read` meets its contract: each check that fails gives its refusal, and a table that passes them all is given
+-- back. Assumes nothing.
 use mathlib.Core.Path.{refl, sym, _∙_, ap}
 use borrow.Author.Tests.{not-true, not-false}
 use native.Mathlib.Omega.{arith}

@@ -1,5 +1,5 @@
--- `image::reading::read_record` meets its contract: each field is what its reader ensures. Four bytes fit 32 bits, so the word fits and so do
--- the two halves of the stock. Assumes nothing.
+-- `image::reading::read_record` meets its contract: each field is what its reader ensures. Four bytes fit 32 bits, so the word
+-- fits and so do the two halves of the stock. Assumes nothing.
 use native.Mathlib.Omega.{arith}
 use Rattle.image.proofs.Load.{four-fits, stored-made}
 use borrow.Author.Needs.{needs}

@@ -1,4 +1,5 @@
--- `image::reading::read_table` meets its contract. The loops' invariants, `ReadTo`: how many records and slots have been read. Assumes nothing.
+-- `image::reading::read_table` meets its contract. The loops' invariants, `ReadTo`: how many records and slots have been read.
+-- Assumes nothing.
 use mathlib.Core.Path.{_≡_}
 use Prim.Native.Nat.{_≤_, _+_, _*_, _-_}
 use native.Mathlib.Nat.{add-zero}

@@ -1,5 +1,5 @@
--- `image::writing::write` meets its contract: each refusal leaves the buffer, and else the head is stored first and then the records.
--- Assumes nothing.
+-- `image::writing::write` meets its contract: each refusal leaves the buffer, and else the head is stored first and then the
+-- records. Assumes nothing.
 use mathlib.Core.Path.{refl, sym, _∙_}
 use borrow.Author.Tests.{not-true, not-false}
 use native.Mathlib.Omega.{arith}

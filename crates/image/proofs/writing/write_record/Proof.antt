@@ -1,5 +1,5 @@
--- `image::writing::write_record` meets its contract: two bytes are stored, and three parts lent in turn come back as their writers ensure.
--- Assumes nothing.
+-- `image::writing::write_record` meets its contract: two bytes are stored, and three parts lent in turn come back as their
+-- writers ensure. Assumes nothing.
 use mathlib.Core.Path.{_∙_}
 use native.Mathlib.Omega.{arith}
 use lib.ListN.{length-set}

@@ -1,4 +1,5 @@
--- `image::writing::write_slots` meets its contract. The loop's invariant: the first `2 * j` bytes are those of the first `j` slots. Assumes nothing.
+-- `image::writing::write_slots` meets its contract. The loop's invariant: the first `2 * j` bytes are those of the first `j`
+-- slots. Assumes nothing.
 use mathlib.Core.Path.{_≡_, refl, _∙_, sym, ap}
 use Prim.Native.Nat.{_≤_, _*_, _-_}
 use native.Mathlib.Omega.{arith}
