@@ -15,10 +15,10 @@ use Rattle.table.proofs.Lists.{getD-tabulate, tabulate-snoc}
 use Rattle.requests.specs.declared.Pair.{Pair}
 use Rattle.requests.specs.declared.PairList.{PairList}
 use Rattle.requests.specs.Asks.{pairAt, pairsOf}
-use Rattle.refusals.specs.Parts.{PairsFit}
+use Rattle.refusals.specs.Helpers.{PairsFit}
 use Rattle.effects.specs.declared.Row.{Row}
 use Rattle.effects.specs.Effects.{landed, copyTo, copyPairs}
-use Rattle.effects.specs.Parts.{rowAt, cellOf}
+use Rattle.effects.specs.Helpers.{rowAt, cellOf}
 
 -- copying ---------------------------------------------------------------------------------------------
 copy-snoc : (t : Table) (source : ℕ → Capability) (n : ℕ) (ps : List Pair) (p : Pair)

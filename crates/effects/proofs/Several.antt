@@ -11,8 +11,8 @@ use Rattle.requests.specs.declared.PairList.{PairList}
 use Rattle.effects.specs.declared.Row.{Row}
 use Rattle.requests.specs.Asks.{pairsOf}
 use Rattle.effects.specs.Effects.{copyPairs, answerSlot, clearSlots, withWord, withStock, made, died, fullOver, stockLess, sent, allocated, destroyed}
-use Rattle.refusals.specs.Parts.{PairsFit}
-use Rattle.effects.specs.Parts.{rowAt, cellOf}
+use Rattle.refusals.specs.Helpers.{PairsFit}
+use Rattle.effects.specs.Helpers.{rowAt, cellOf}
 use Rattle.effects.proofs.Pairs.{copy-row}
 
 -- send: with a reply slot, and without

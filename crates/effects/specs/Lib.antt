@@ -1,2 +1,2 @@
 pub mod Effects
-pub mod Parts
+pub mod Helpers

@@ -8,7 +8,7 @@ use table::Table;
 ghost use mathlib.Core.Path.{_≡_};
 ghost use Prim.Native.Nat.{_<_};
 ghost use Rattle.requests.specs.Asks.{pairsOf};
-ghost use Rattle.refusals.specs.Parts.{PairsFit};
+ghost use Rattle.refusals.specs.Helpers.{PairsFit};
 ghost use Rattle.effects.specs.Effects.{sent as sentTo, allocated as allocatedTo, destroyed as destroyedBy};
 
 // What a send does to its target g: the word, the pairs from the actor's slots as they were, then the reply slot.

@@ -8,8 +8,8 @@ ghost use mathlib.Core.Path.{_≡_};
 ghost use Prim.Native.Nat.{_<_};
 ghost use Rattle.requests.specs.Asks.{pairsOf};
 ghost use Rattle.effects.specs.Effects.{weaken as weakened, fetched as fetchedBy, landed as landedOn, copyPairs};
-ghost use Rattle.refusals.specs.Parts.{PairsFit};
-ghost use Rattle.effects.specs.Parts.{rowAt, cellOf};
+ghost use Rattle.refusals.specs.Helpers.{PairsFit};
+ghost use Rattle.effects.specs.Helpers.{rowAt, cellOf};
 
 // wk if rd or wk was present; otherwise empty.
 pub fn weaken(c: Capability) -> Capability

@@ -17,7 +17,8 @@ use Rattle.mask.proofs.Bits.{bits-same}
 use Rattle.table.specs.declared.Capability.{Capability}
 use Rattle.table.specs.Cells.{hasWk}
 use Rattle.table.proofs.Lists.{length-tabulate, getD-tabulate, as-tabulate}
-use Rattle.links.specs.Links.{hasStrong, capabilityLink, edgeIf, linkIf}
+use Rattle.links.specs.Links.{hasStrong, capabilityLink}
+use Rattle.links.specs.Helpers.{edgeIf, linkIf}
 use Rattle.links.proofs.Edges.{wordsOf, words-edge, words-same}
 
 -- the edge from u to v, where it is wanted

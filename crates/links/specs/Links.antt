@@ -58,14 +58,3 @@ joined words edge = tabulate 64 (λ u. bits 64 (λ v. wordEdge words u v || edge
 -- the links of the first n entries, held by x over numbers of the set
 unfoldable pub entryLink : List Capability → ℕ → ℕ → ℕ → ℕ → ℕ → Bool
 entryLink entries n among x u v = anyBelow n (λ k. has (slotOf entries k .target) among && capabilityLink x (slotOf entries k) u v)
-
--- the code's steps: v joined into word u, and the links of one capability, each where it is wanted
-unfoldable pub edgeIf : Bool → List ℕ → ℕ → ℕ → List ℕ
-edgeIf true words u v = set words u (including v (getD words u 0))
-edgeIf false words u v = words
-
-unfoldable pub linkIf : Bool → List ℕ → ℕ → Capability → List ℕ
-linkIf on words holder c =
-    edgeIf (on && (hasStrong (c .rights) || hasWk (c .rights)))
-    (edgeIf (on && hasStrong (c .rights)) words holder (c .target))
-    (c .target) holder

@@ -6,7 +6,8 @@ ghost use mathlib.Core.Bool.{true};
 ghost use Prim.Native.Nat.{_≤_, _<_};
 ghost use Rattle.access.specs.Relation.{tableHolding};
 ghost use Rattle.access.specs.Closure.{grow, only, reached};
-ghost use Rattle.links.specs.Links.{linkWords, wordEdge, slotHolding, hasStrong, joined, entryLink, edgeIf, linkIf};
+ghost use Rattle.links.specs.Links.{linkWords, wordEdge, slotHolding, hasStrong, joined, entryLink};
+ghost use Rattle.links.specs.Helpers.{edgeIf, linkIf};
 
 // Is rd, wr or tx among the rights?
 fn has_strong(rights: u8) -> bool

@@ -14,7 +14,7 @@ use Rattle.requests.specs.declared.Pair.{Pair}
 use Rattle.requests.specs.declared.PairList.{PairList}
 use Rattle.requests.specs.Asks.{pairAt, pairsOf}
 use Rattle.refusals.specs.Refusals.{noSlot, badSlots, badList}
-use Rattle.refusals.specs.Parts.{PairsFit}
+use Rattle.refusals.specs.Helpers.{PairsFit}
 
 -- whether a list is refused ------------------------------------------------------------------
 abbrev pairBad : Pair → Bool

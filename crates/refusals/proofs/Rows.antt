@@ -19,7 +19,7 @@ use Rattle.refusals.specs.declared.Reply.the-variants.{Done, FieldInvali
 use Rattle.refusals.specs.declared.Seen.{Seen}
 use Rattle.refusals.specs.Replies.{isDone}
 use Rattle.refusals.specs.Refusals.{refuse, noObject, noSlot, unfit, needMet, otherStatus, through, targetOf, targetRecord, rightsOf, throughSlot}
-use Rattle.refusals.specs.Parts.{firstOf, badPlace, slotRows, seenOf, Looked}
+use Rattle.refusals.specs.Helpers.{firstOf, badPlace, slotRows, seenOf, Looked}
 use Rattle.refusals.proofs.Targets.{target-below}
 
 -- one check

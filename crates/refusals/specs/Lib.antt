@@ -1,3 +1,3 @@
 pub mod Replies
 pub mod Refusals
-pub mod Parts
+pub mod Helpers

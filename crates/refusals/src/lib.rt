@@ -7,7 +7,7 @@ ghost use mathlib.Core.Bool.{true};
 ghost use Rattle.table.specs.Soundness.{sound};
 ghost use Rattle.requests.specs.Asks.{pairsOf};
 ghost use Rattle.refusals.specs.Refusals.{badList, needMet};
-ghost use Rattle.refusals.specs.Parts.{firstOf, Looked};
+ghost use Rattle.refusals.specs.Helpers.{firstOf, Looked};
 
 // The status that every request wants of its target.
 pub const ALIVE: u8 = 1;

@@ -14,7 +14,7 @@ use borrow.Author.Tests.{lt-ltb, le-ltb, ltb-true, ltb-false}
 use Rattle.mask.specs.Sets.{has}
 use Rattle.mask.proofs.Tests.{byCases}
 use Rattle.report.specs.Printed.{newline, decimal, numberLine, numberLines}
-use Rattle.report.specs.Parts.{placed, begun, lineIf}
+use Rattle.report.specs.Helpers.{placed, begun, lineIf}
 
 -- a word -------------------------------------------------------------------------------
 -- the loop that copies a word to the buffer's start: one more byte, and all

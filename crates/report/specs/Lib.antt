@@ -1,4 +1,4 @@
 pub mod Input
 pub mod Decisions
 pub mod Printed
-pub mod Parts
+pub mod Helpers

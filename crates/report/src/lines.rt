@@ -4,7 +4,7 @@ ghost use mathlib.Core.Path.{_≡_};
 ghost use Prim.Native.Nat.{_+_, _≤_, _<_};
 ghost use lib.ListN.{length};
 ghost use Rattle.report.specs.Printed.{numberLine, numberLines, refusedLine, acceptedLines, linesOf};
-ghost use Rattle.report.specs.Parts.{placed, begun, lineIf};
+ghost use Rattle.report.specs.Helpers.{placed, begun, lineIf};
 
 // A word first.
 pub fn put_word(out: &mut [u8], word: &[u8]) -> usize

@@ -21,7 +21,7 @@ use Rattle.refusals.specs.declared.Reply.the-variants.{Done, TargetPassive, Act
 use Rattle.refusals.specs.declared.Seen.{Seen}
 use Rattle.requests.specs.Asks.{read, write, fetch, store, revoke, send, allocate, destroy, unknown, pairsOf}
 use Rattle.refusals.specs.Refusals.{refuse, alive, noObject, noSlot, badList, badField, notInStock, targetOf, laterRows}
-use Rattle.refusals.specs.Parts.{Looked, PairsFit}
+use Rattle.refusals.specs.Helpers.{Looked, PairsFit}
 use Rattle.refusals.proofs.Lists.{pairs-fit}
 use Rattle.steps.proofs.Ways.{Uses, Fields, Later}
 

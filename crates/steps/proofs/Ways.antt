@@ -20,7 +20,7 @@ use Rattle.refusals.specs.Replies.{isDone}
 use Rattle.refusals.specs.Refusals.{refuse, noObject, noSlot, badField, unfit, targetOf, rightsOf, throughSlot, laterRows, refusal}
 use Rattle.effects.specs.Effects.{effect}
 use Rattle.steps.specs.Steps.{stepOf}
-use Rattle.refusals.specs.Parts.{Looked}
+use Rattle.refusals.specs.Helpers.{Looked}
 use Rattle.steps.proofs.Refused.{step-refused, step-done}
 use Rattle.refusals.proofs.Rows.{rowsThen, rows-last, rows-first, seen-done}
 

@@ -17,8 +17,13 @@ use Rattle.table.specs.declared.Glance.{Glance}
 use Rattle.table.specs.declared.Table.{Table}
 use Rattle.table.specs.Cells.{recordAt, slotAt, isAlive, bornAt, isEmpty}
 use Rattle.table.specs.Soundness.{idleSlotSound, filledSound, slotSound}
-use Rattle.table.specs.Glances.{oddSlot, glanceMore, glanceOver, clearOf}
+use Rattle.table.specs.Helpers.{oddSlot, glanceMore, clearOf}
 use Rattle.table.proofs.Scan.{bornSet, has-born}
+
+-- what the glance has noted of the first k slots of n
+unfoldable pub glanceOver : Table → ℕ → ℕ → Glance
+glanceOver t n zero = record { filled = false; odd = false; named = 0 }
+glanceOver t n (suc k) = glanceMore (glanceOver t n k) (slotAt t n k .target) (slotAt t n k .rights)
 
 pub over-none : (t : Table) (n : ℕ) → record { filled = false; odd = false; named = 0 } ≡ glanceOver t n 0
 unfolding glanceOver

@@ -1,4 +1,4 @@
 pub mod Lists
 pub mod Cells
 pub mod Soundness
-pub mod Glances
+pub mod Helpers

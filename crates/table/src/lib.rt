@@ -3,7 +3,7 @@ ghost use mathlib.Core.Path.{_≡_};
 ghost use mathlib.Core.Bool.{_&&_};
 ghost use Rattle.table.specs.Cells.{isBorn, unbornTable};
 ghost use Rattle.table.specs.Soundness.{recordSound, idleSlotSound, filledSound, sound};
-ghost use Rattle.table.specs.Glances.{oddSlot, glanceMore, clearOf};
+ghost use Rattle.table.specs.Helpers.{oddSlot, glanceMore, clearOf};
 
 // What a slot holds: a target and rights over it (1 rd, 2 wr, 4 wk, 8 tx). Target 0 with rights 0 is an empty slot.
 #[repr(C)]

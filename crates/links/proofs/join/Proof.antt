@@ -1,6 +1,6 @@
 -- `join` adds one number to one word where that is wanted, and else leaves the words. Assumes nothing.
 use mathlib.Core.Path.{refl}
-use Rattle.links.specs.Links.{edgeIf}
+use Rattle.links.specs.Helpers.{edgeIf}
 use borrow.Author.Needs.{needs}
 use Rattle.links.proofs.join.Statement.{statement}
 use Rattle.links.proofs.join.Tie as tie

@@ -11,9 +11,8 @@ use Rattle.mask.proofs.Below.{all-more, all-none}
 use Rattle.mask.proofs.UpTo.{upTo, up-none, up-on, up-off}
 use Rattle.table.specs.Cells.{stockAt, bornAt}
 use Rattle.table.specs.Soundness.{slotSound}
-use Rattle.table.specs.Glances.{glanceOver}
 use Rattle.table.proofs.Scan.{born-all, takenBelow, taken-none, taken-more, goodAt, scanned, stopped-at-record, stopped-at-slot, good-more, opens-is, slot-is}
-use Rattle.table.proofs.Glances.{over-none, over-more, cleared}
+use Rattle.table.proofs.Glances.{glanceOver, over-none, over-more, cleared}
 use Rattle.table.proofs.Value.{records-long}
 use borrow.Author.Needs.{needs}
 use Rattle.table.proofs.is_sound.Statement.{statement}

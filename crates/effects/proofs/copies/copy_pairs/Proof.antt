@@ -6,7 +6,7 @@ use native.Mathlib.Omega.{arith}
 use Rattle.table.specs.Lists.{tabulate}
 use Rattle.requests.specs.Asks.{pairAt}
 use Rattle.effects.specs.Effects.{copyPairs}
-use Rattle.effects.specs.Parts.{cellOf}
+use Rattle.effects.specs.Helpers.{cellOf}
 use Rattle.effects.proofs.Pairs.{copy-none, copy-more, copy-all}
 use borrow.Author.Needs.{needs}
 use Rattle.effects.proofs.copies.copy_pairs.Statement.{statement}

@@ -5,7 +5,7 @@ use Prim.Native.Nat.{_+_, _≤_, _-_}
 use native.Mathlib.Omega.{arith}
 use lib.ListN.{length}
 use Rattle.report.specs.Printed.{numberLines}
-use Rattle.report.specs.Parts.{placed}
+use Rattle.report.specs.Helpers.{placed}
 use Rattle.report.proofs.Buffers.{length-lines, lines-none, lines-more}
 use borrow.Author.Needs.{needs}
 use Rattle.report.proofs.lines.put_numbers.Statement.{statement}

@@ -1,5 +1,5 @@
--- The scan's glance over the eight slots of a record, before it tests them one by one: what it notes of them, and when that is
--- enough to pass them all.
+-- What helpers of the scan promise: its glance over the eight slots of a record, before it tests them one by one: what it notes of
+-- them, and when that is enough to pass them all.
 use mathlib.Core.Bool.{Bool, true, false, not, _&&_, _||_}
 use Prim.Native.Nat.{ℕ, zero, suc, _%_}
 use lib.Dec.{leb, eqb}
@@ -20,11 +20,6 @@ glanceMore g target rights = record {
   odd = g .odd || oddSlot target rights;
   named = including (target % 64) (g .named);
 }
-
--- the first k slots of n
-unfoldable pub glanceOver : Table → ℕ → ℕ → Glance
-glanceOver t n zero = record { filled = false; odd = false; named = 0 }
-glanceOver t n (suc k) = glanceMore (glanceOver t n k) (slotAt t n k .target) (slotAt t n k .rights)
 
 -- no slot is filled; or the record is alive, no slot is odd and every target is born
 abbrev pub clearOf : Glance → Record → ℕ → Bool
