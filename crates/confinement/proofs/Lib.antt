@@ -1,5 +1,5 @@
 pub mod Bound
-pub mod Facts
+pub mod TestFacts
 pub mod Scans
 pub mod BoundWords
 pub mod Verdicts

@@ -15,7 +15,7 @@ use Rattle.confinement.specs.Refusals.{refuse, badMembers, badList, badH
 use Rattle.confinement.specs.Tests.{isAccepted, refusedTest, testOf}
 use Rattle.confinement.specs.Parts.{listBad}
 use Rattle.confinement.proofs.Scans.{list-same}
-use Rattle.confinement.proofs.Facts.{members-facts}
+use Rattle.confinement.proofs.TestFacts.{members-facts}
 
 module _ (t : Table) (members : ℕ) (list : List Capability) where
   by-verdict : (v : Verdict) → isAccepted v ≡ false → verdictOf t members list ≡ v → refusedTest v ≡ testOf t members list

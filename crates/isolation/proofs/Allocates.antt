@@ -17,7 +17,7 @@ use Rattle.table.specs.declared.Record.{Record}
 use Rattle.table.specs.declared.Table.{Table}
 use Rattle.table.specs.Cells.{emptySlot, recordAt, slotAt, statusAt, stockAt, putRecord, putSlot}
 use Rattle.table.proofs.Cells.{Sized, record-put, record-same}
-use Rattle.table.proofs.Facts.{Sound}
+use Rattle.table.proofs.SoundFacts.{Sound}
 use Rattle.requests.specs.declared.Pair.{Pair}
 use Rattle.refusals.specs.declared.Reply.the-variants.{Done, NotInStock}
 use Rattle.requests.specs.Asks.{allocate}
@@ -27,7 +27,7 @@ use Rattle.effects.specs.Effects.{withStock, made, fullOver, stockLess, copyPai
 use Rattle.isolation.specs.Clean.{Clean, adding}
 use Rattle.isolation.specs.Demand.{AgreeOn}
 use Rattle.isolation.proofs.Invariant.{Isolated, nobody-clean, putSlot-isolated, putRecord-isolated, agree-slot-out, agree-record-out, agree-trans, agree-slot, agree-record}
-use Rattle.isolation.proofs.Granted.{passed, Entered, entered, slot-low, object-low, Ranged, ranged, Within, within}
+use Rattle.isolation.proofs.Granted.{passed, PastChecks, past-checks, slot-low, object-low, Ranged, ranged, Within, within}
 use Rattle.isolation.proofs.Sides.{fits-live, stock-kept}
 use Rattle.isolation.proofs.Copies.{fits-moved, copies-record, copies-sized, copies-isolated, copies-out, copies-both}
 
@@ -51,7 +51,7 @@ record Made (t : Table) (ps : List Pair) (a n k p i : ℕ) : Type 0 where
 made-facts : (t : Table) (ps : List Pair) (a n k p i : ℕ) → isDone (refusal t (allocate a n k p i ps)) ≡ true → Made t ps a n k p i
 unfolding badField laterRows
 made-facts t ps a n k p i e =
-    let r = entered t (allocate a n k p i ps) e in
+    let r = past-checks t (allocate a n k p i ps) e in
     let f1 = or-none (noObject a || noObject n || ltb 1 k || noSlot i) (badList ps) (r .fields) in
     let f2 = or-none (noObject a || noObject n || ltb 1 k) (noSlot i) (f1 .0) in
     let f3 = or-none (noObject a || noObject n) (ltb 1 k) (f2 .0) in

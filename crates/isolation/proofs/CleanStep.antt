@@ -12,7 +12,7 @@ use Rattle.table.specs.declared.Record.{Record}
 use Rattle.table.specs.declared.Table.{Table}
 use Rattle.table.specs.Cells.{recordAt, slotAt, isActive, isEmpty}
 use Rattle.table.specs.Soundness.{sound}
-use Rattle.table.proofs.Facts.{sound-true}
+use Rattle.table.proofs.SoundFacts.{sound-true}
 use Rattle.refusals.specs.declared.Need.{Need}
 use Rattle.refusals.specs.declared.Need.the-variants.{ReadOrWeak, Write, Send}
 use Rattle.refusals.specs.declared.Reply.{Reply}

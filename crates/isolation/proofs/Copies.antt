@@ -12,7 +12,7 @@ use Rattle.table.specs.declared.Capability.{Capability}
 use Rattle.table.specs.declared.Table.{Table}
 use Rattle.table.specs.Cells.{emptySlot, recordAt, slotAt, statusAt, putSlot}
 use Rattle.table.proofs.Cells.{Sized, sized-putSlot, slot-same, slot-beside}
-use Rattle.table.proofs.Facts.{SlotFine}
+use Rattle.table.proofs.SoundFacts.{SlotFine}
 use Rattle.requests.specs.declared.Pair.{Pair}
 use Rattle.effects.specs.Effects.{landed, copyTo, copyPairs, answerSlot, clearSlots}
 use Rattle.isolation.specs.Clean.{Clean}

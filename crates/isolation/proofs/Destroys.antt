@@ -24,14 +24,14 @@ use Rattle.effects.specs.Effects.{clearSlots, withStock, died, destroyed, effec
 use Rattle.isolation.specs.Clean.{Clean}
 use Rattle.isolation.specs.Demand.{AgreeOn}
 use Rattle.isolation.proofs.Invariant.{Isolated, putRecord-isolated, agree-record-out, agree-trans, agree-record}
-use Rattle.isolation.proofs.Granted.{passed, Entered, entered, Granted, granted}
+use Rattle.isolation.proofs.Granted.{passed, PastChecks, past-checks, Granted, granted}
 use Rattle.isolation.proofs.Sides.{clean-target, dirty-target, weak-no-write, fits-live, stock-kept}
 use Rattle.isolation.proofs.Copies.{clear-record, clear-isolated, clear-sized, clear-bare, clear-out, clear-both}
 
 module _ (t : Table) (C : Clean) (v : Isolated t C) (a s : ℕ) (e : isDone (refusal t (destroy a s)) ≡ true) where
   both-facts : (Granted t a s Write) × (isDone (refuse (eqb (targetOf t a s) a) ActorItself Done) ≡ true)
   unfolding badField laterRows
-  both-facts = let r = entered t (destroy a s) e in granted t a s Write _ (v .sound) (r .fields) (r .alive) (r .later)
+  both-facts = let r = past-checks t (destroy a s) e in granted t a s Write _ (v .sound) (r .fields) (r .alive) (r .later)
 
   g : Granted t a s Write
   g = both-facts .0

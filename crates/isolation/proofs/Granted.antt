@@ -17,7 +17,7 @@ use Rattle.table.specs.declared.Table.{Table}
 use Rattle.table.specs.Cells.{recordAt, slotAt, statusAt, isAlive, isActive, isEmpty}
 use Rattle.table.specs.Soundness.{sound}
 use Rattle.table.proofs.Cells.{Sized, record-high}
-use Rattle.table.proofs.Facts.{SlotFine, Sound}
+use Rattle.table.proofs.SoundFacts.{SlotFine, Sound}
 use Rattle.requests.specs.declared.Pair.{Pair}
 use Rattle.refusals.specs.declared.Need.{Need}
 use Rattle.refusals.specs.declared.Reply.{Reply}
@@ -39,14 +39,14 @@ pub object-low : (n : ℕ) → noObject n ≡ false → n < 64
 object-low n e = omega (arith, ltb-false 63 n e)
 
 -- rows 1 to 3
-pub record Entered (t : Table) (q : Ask) : Type 0 where
+pub record PastChecks (t : Table) (q : Ask) : Type 0 where
   pub fields : badField q ≡ false
   pub alive : statusAt t (actorOf q) ≡ 1
   pub later : isDone (laterRows t q) ≡ true
 
-pub entered : (t : Table) (q : Ask) → isDone (refusal t q) ≡ true → Entered t q
+pub past-checks : (t : Table) (q : Ask) → isDone (refusal t q) ≡ true → PastChecks t q
 unfolding refusal
-entered t q e =
+past-checks t q e =
     let r1 = passed (not (sound t)) TableUnsound _ refl e in
     let r2 = passed (badField q) FieldInvalid _ refl (r1 .1) in
     let r3 = passed (unfit (recordAt t (actorOf q))) ActorUnfit _ refl (r2 .1) in

@@ -14,7 +14,7 @@ use Rattle.table.specs.declared.Record.{Record}
 use Rattle.table.specs.declared.Table.{Table}
 use Rattle.table.specs.Cells.{recordAt, slotAt, statusAt, stockAt, putRecord, putSlot}
 use Rattle.table.proofs.Cells.{Sized, sized-putSlot, sized-putRecord, record-same, record-other, slot-same, slot-other, slot-beside, slot-put, record-put, record-high}
-use Rattle.table.proofs.Facts.{RecordFine, SlotFine, Sound}
+use Rattle.table.proofs.SoundFacts.{RecordFine, SlotFine, Sound}
 use Rattle.isolation.specs.Clean.{Clean}
 use Rattle.isolation.specs.Demand.{AgreeOn}
 

@@ -8,7 +8,7 @@ use Rattle.mask.proofs.Tests.{byCases, clash}
 use Rattle.table.specs.declared.Table.{Table}
 use Rattle.table.specs.Soundness.{sound}
 use Rattle.table.proofs.Cells.{Sized}
-use Rattle.table.proofs.Facts.{Sound, sound-facts, sound-true}
+use Rattle.table.proofs.SoundFacts.{Sound, sound-facts, sound-true}
 use Rattle.requests.specs.Asks.{Ask, read, write, fetch, store, revoke, send, allocate, destroy, unknown, actorOf}
 use Rattle.refusals.specs.Replies.{isDone}
 use Rattle.refusals.specs.Refusals.{badField, refusal}
@@ -18,7 +18,7 @@ use Rattle.steps.proofs.Refused.{refused-keeps, done-effects}
 use Rattle.isolation.specs.Clean.{Clean}
 use Rattle.isolation.specs.Demand.{AgreeOn}
 use Rattle.isolation.proofs.Invariant.{Isolated, agree-refl}
-use Rattle.isolation.proofs.Granted.{Entered, entered}
+use Rattle.isolation.proofs.Granted.{PastChecks, past-checks}
 use Rattle.isolation.proofs.Slots.{read-isolated, read-out, write-isolated, write-out, fetch-isolated, fetch-out, store-isolated, store-out, revoke-isolated, revoke-out}
 use Rattle.isolation.proofs.Sends.{send-isolated, send-out}
 use Rattle.isolation.proofs.Allocates.{allocate-isolated, allocate-out}
@@ -27,7 +27,7 @@ use Rattle.isolation.proofs.Destroys.{destroy-isolated, destroy-out}
 -- a code with no request is never done
 pub unknown-refused : {P : Type 0} (t : Table) (k a : ℕ) → isDone (refusal t (unknown k a)) ≡ true → P
 unfolding badField
-unknown-refused t k a e = clash refl (entered t (unknown k a) e .fields)
+unknown-refused t k a e = clash refl (past-checks t (unknown k a) e .fields)
 
 effect-outside : (t : Table) (C : Clean) (q : Ask) → Isolated t C → C (actorOf q) ≡ false → isDone (refusal t q) ≡ true → Isolated (effect t q) C × AgreeOn C t (effect t q)
 effect-outside t C (read a s) v c e = (read-isolated t C v a s e, read-out t C v a s e c)

@@ -13,7 +13,7 @@ use Rattle.table.specs.declared.Table.{Table}
 use Rattle.table.specs.Cells.{recordAt, stockAt, isActive, isEmpty}
 use Rattle.table.specs.Soundness.{sound}
 use Rattle.table.proofs.Cells.{Sized}
-use Rattle.table.proofs.Facts.{Sound, sound-facts, sound-true}
+use Rattle.table.proofs.SoundFacts.{Sound, sound-facts, sound-true}
 use Rattle.refusals.specs.declared.Need.{Need}
 use Rattle.refusals.specs.declared.Reply.{Reply}
 use Rattle.refusals.specs.declared.Reply.the-variants.{Done, FieldInvalid, ActorUnfit, SlotEmpty, TargetDead, RightAbsent, TargetPassive, ActorItself, NotInStock}

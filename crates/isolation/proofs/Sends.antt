@@ -20,7 +20,7 @@ use Rattle.effects.specs.Effects.{withWord, copyPairs, sent, effect}
 use Rattle.isolation.specs.Clean.{Clean}
 use Rattle.isolation.specs.Demand.{AgreeOn}
 use Rattle.isolation.proofs.Invariant.{Isolated, putRecord-isolated, agree-record-out, agree-trans, agree-record}
-use Rattle.isolation.proofs.Granted.{Entered, entered, Granted, granted, Ranged, ranged}
+use Rattle.isolation.proofs.Granted.{PastChecks, past-checks, Granted, granted, Ranged, ranged}
 use Rattle.isolation.proofs.Sides.{clean-target, same-side, weak-no-send, fits-word}
 use Rattle.isolation.proofs.Copies.{fits-moved, copies-record, copies-sized, copies-isolated, copies-out, copies-both, answer-isolated, answer-out, answer-both}
 
@@ -28,13 +28,13 @@ module _ (t : Table) (C : Clean) (v : Isolated t C) (a s w : ℕ) (ps : List Pai
   send-fields : ((noObject a || noSlot s) ≡ false) × Ranged ps
   unfolding badField
   send-fields =
-      let p = or-none (noObject a || noSlot s || badList ps) (ltb 8 y) (entered t (send a s w ps y) e .fields) in
+      let p = or-none (noObject a || noSlot s || badList ps) (ltb 8 y) (past-checks t (send a s w ps y) e .fields) in
       let q = or-none (noObject a || noSlot s) (badList ps) (p .0) in
       (q .0, ranged ps (q .1))
 
   send-granted : Granted t a s Send
   unfolding laterRows
-  send-granted = let r = entered t (send a s w ps y) e in granted t a s Send _ (v .sound) (send-fields .0) (r .alive) (r .later) .0
+  send-granted = let r = past-checks t (send a s w ps y) e in granted t a s Send _ (v .sound) (send-fields .0) (r .alive) (r .later) .0
 
   worded : Table
   worded = putRecord t (targetOf t a s) (withWord (recordAt t (targetOf t a s)) w)

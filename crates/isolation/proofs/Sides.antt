@@ -10,7 +10,7 @@ use Rattle.table.specs.declared.Capability.{Capability}
 use Rattle.table.specs.declared.Record.{Record}
 use Rattle.table.specs.declared.Table.{Table}
 use Rattle.table.specs.Cells.{emptySlot, recordAt, slotAt, statusAt, stockAt, hasRd}
-use Rattle.table.proofs.Facts.{Sound}
+use Rattle.table.proofs.SoundFacts.{Sound}
 use Rattle.refusals.specs.declared.Need.{Need}
 use Rattle.refusals.specs.declared.Need.the-variants.{ReadOrWeak, Write, Send}
 use Rattle.refusals.specs.Refusals.{needMet, targetOf, rightsOf}

@@ -19,7 +19,7 @@ use Rattle.effects.specs.Effects.{fetched, effect}
 use Rattle.isolation.specs.Clean.{Clean}
 use Rattle.isolation.specs.Demand.{AgreeOn}
 use Rattle.isolation.proofs.Invariant.{Isolated, SlotFits, putSlot-isolated, putRecord-isolated, agree-record-out, agree-slot-out, agree-record, agree-slot}
-use Rattle.isolation.proofs.Granted.{Entered, entered, Granted, granted, slot-low}
+use Rattle.isolation.proofs.Granted.{PastChecks, past-checks, Granted, granted, slot-low}
 use Rattle.isolation.proofs.Sides.{clean-target, dirty-target, same-side, weak-no-write, fetched-elim, fits-word}
 use Rattle.isolation.proofs.Copies.{fits-empty, fits-moved, copy-isolated, copy-out, copy-both}
 
@@ -34,7 +34,7 @@ two-slots a s i j e =
 module _ (t : Table) (C : Clean) (v : Isolated t C) (a s : ℕ) (e : isDone (refusal t (read a s)) ≡ true) where
   read-granted : Granted t a s ReadOrWeak
   unfolding badField laterRows
-  read-granted = let r = entered t (read a s) e in granted t a s ReadOrWeak Done (v .sound) (r .fields) (r .alive) (r .later) .0
+  read-granted = let r = past-checks t (read a s) e in granted t a s ReadOrWeak Done (v .sound) (r .fields) (r .alive) (r .later) .0
 
   pub read-isolated : Isolated (effect t (read a s)) C
   unfolding effect
@@ -48,7 +48,7 @@ module _ (t : Table) (C : Clean) (v : Isolated t C) (a s : ℕ) (e : isDone (ref
 module _ (t : Table) (C : Clean) (v : Isolated t C) (a s w : ℕ) (e : isDone (refusal t (write a s w)) ≡ true) where
   write-granted : Granted t a s Write
   unfolding badField laterRows
-  write-granted = let r = entered t (write a s w) e in granted t a s Write Done (v .sound) (r .fields) (r .alive) (r .later) .0
+  write-granted = let r = past-checks t (write a s w) e in granted t a s Write Done (v .sound) (r .fields) (r .alive) (r .later) .0
 
   pub write-isolated : Isolated (effect t (write a s w)) C
   unfolding effect
@@ -62,11 +62,11 @@ module _ (t : Table) (C : Clean) (v : Isolated t C) (a s w : ℕ) (e : isDone (r
 module _ (t : Table) (C : Clean) (v : Isolated t C) (a s i j : ℕ) (e : isDone (refusal t (fetch a s i j)) ≡ true) where
   fetch-fields : ((noObject a || noSlot s) ≡ false) × (i < 8) × (j < 8)
   unfolding badField
-  fetch-fields = two-slots a s i j (entered t (fetch a s i j) e .fields)
+  fetch-fields = two-slots a s i j (past-checks t (fetch a s i j) e .fields)
 
   fetch-granted : Granted t a s ReadOrWeak
   unfolding laterRows
-  fetch-granted = let r = entered t (fetch a s i j) e in granted t a s ReadOrWeak Done (v .sound) (fetch-fields .0) (r .alive) (r .later) .0
+  fetch-granted = let r = past-checks t (fetch a s i j) e in granted t a s ReadOrWeak Done (v .sound) (fetch-fields .0) (r .alive) (r .later) .0
 
   -- through wk alone nothing but wk comes out, and what an outsider reads through is not clean unless it is through wk alone
   fetch-fits : SlotFits t C a (fetched (rightsOf t a s) (slotAt t (targetOf t a s) i))
@@ -103,11 +103,11 @@ module _ (t : Table) (C : Clean) (v : Isolated t C) (a s i j : ℕ) (e : isDone 
 module _ (t : Table) (C : Clean) (v : Isolated t C) (a s i j : ℕ) (e : isDone (refusal t (store a s i j)) ≡ true) where
   store-fields : ((noObject a || noSlot s) ≡ false) × (i < 8) × (j < 8)
   unfolding badField
-  store-fields = two-slots a s i j (entered t (store a s i j) e .fields)
+  store-fields = two-slots a s i j (past-checks t (store a s i j) e .fields)
 
   store-granted : Granted t a s Write
   unfolding laterRows
-  store-granted = let r = entered t (store a s i j) e in granted t a s Write Done (v .sound) (store-fields .0) (r .alive) (r .later) .0
+  store-granted = let r = past-checks t (store a s i j) e in granted t a s Write Done (v .sound) (store-fields .0) (r .alive) (r .later) .0
 
   pub store-isolated : Isolated (effect t (store a s i j)) C
   unfolding effect
@@ -122,11 +122,11 @@ module _ (t : Table) (C : Clean) (v : Isolated t C) (a s i j : ℕ) (e : isDone 
 module _ (t : Table) (C : Clean) (v : Isolated t C) (a s j : ℕ) (e : isDone (refusal t (revoke a s j)) ≡ true) where
   revoke-fields : ((noObject a || noSlot s) ≡ false) × (j < 8)
   unfolding badField
-  revoke-fields = let p = or-none (noObject a || noSlot s) (noSlot j) (entered t (revoke a s j) e .fields) in (p .0, slot-low j (p .1))
+  revoke-fields = let p = or-none (noObject a || noSlot s) (noSlot j) (past-checks t (revoke a s j) e .fields) in (p .0, slot-low j (p .1))
 
   revoke-granted : Granted t a s Write
   unfolding laterRows
-  revoke-granted = let r = entered t (revoke a s j) e in granted t a s Write Done (v .sound) (revoke-fields .0) (r .alive) (r .later) .0
+  revoke-granted = let r = past-checks t (revoke a s j) e in granted t a s Write Done (v .sound) (revoke-fields .0) (r .alive) (r .later) .0
 
   pub revoke-isolated : Isolated (effect t (revoke a s j)) C
   unfolding effect

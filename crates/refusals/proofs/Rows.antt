@@ -1,5 +1,5 @@
--- Rows 2 to 6 for a slot, by their five tests: what looking at the slot tells of them, and that a last check after them decides
--- exactly where looking says "done". By the cases of the five tests. Assumes nothing.
+-- Rows 2 to 6 for a slot, by their five tests: what the check of a slot tells of them, and that a last check after them decides
+-- exactly where it says "done". By the cases of the five tests. Assumes nothing.
 use mathlib.Core.Path.{_≡_, refl, sym, _∙_, ap, ap₂}
 use mathlib.Core.Bool.{Bool, true, false, not, _&&_, _||_, false≢true}
 use Prim.Native.Nat.{ℕ, _≤_, _<_}
@@ -12,14 +12,14 @@ use Rattle.table.specs.declared.Table.{Table}
 use Rattle.table.specs.Cells.{recordAt, slotAt, isEmpty, isBorn}
 use Rattle.table.specs.Soundness.{sound}
 use Rattle.table.proofs.Cells.{Sized}
-use Rattle.table.proofs.Facts.{pos-born}
+use Rattle.table.proofs.SoundFacts.{pos-born}
 use Rattle.refusals.specs.declared.Need.{Need}
 use Rattle.refusals.specs.declared.Reply.{Reply}
 use Rattle.refusals.specs.declared.Reply.the-variants.{Done, FieldInvalid, ActorUnfit, SlotEmpty, TargetDead, RightAbsent}
-use Rattle.refusals.specs.declared.Seen.{Seen}
+use Rattle.refusals.specs.declared.SlotCheck.{SlotCheck}
 use Rattle.refusals.specs.Replies.{isDone}
 use Rattle.refusals.specs.Refusals.{refuse, noObject, noSlot, unfit, needMet, otherStatus, through, targetOf, targetRecord, rightsOf, throughSlot}
-use Rattle.refusals.specs.Helpers.{firstOf, badPlace, slotRows, seenOf, Looked}
+use Rattle.refusals.specs.Helpers.{firstOf, badPlace, slotRows, slotCheckOf, SlotChecked}
 use Rattle.refusals.proofs.Targets.{target-below}
 
 -- one check
@@ -59,7 +59,7 @@ first-done false false true unable = refl
 first-done false false false true = refl
 first-done false false false false = refl
 
--- what looking tells -------------------------------------------------------------------------------------
+-- what the check of a slot tells -------------------------------------------------------------------------------------
 pub record Placed (a s : ℕ) (bad : Bool) : Type 0 where
   pub actor : a < 64
   pub slot : s < 8
@@ -78,11 +78,11 @@ slot-placed j e = omega (arith, ltb-false 7 j e)
 pub slots-placed : (i j : ℕ) → (noSlot i || noSlot j) ≡ false → (i < 8) × (j < 8)
 slots-placed i j e = let p = or-none (noSlot i) (noSlot j) e in (slot-placed i (p .0), slot-placed j (p .1))
 
-pub look-invalid : (t : Table) (a s : ℕ) (bad : Bool) (wanted : ℕ) (need : Need) → badPlace a s bad ≡ true
-    → Looked t a s bad wanted need (record { reply = FieldInvalid; done = false; target = 0; rights = 0; kind = 0 })
-unfolding slotRows seenOf
-look-invalid t a s bad wanted need e = record {
-  whole = rw (e, seenOf) refl;
+pub check-invalid : (t : Table) (a s : ℕ) (bad : Bool) (wanted : ℕ) (need : Need) → badPlace a s bad ≡ true
+    → SlotChecked t a s bad wanted need (record { reply = FieldInvalid; done = false; target = 0; rights = 0; kind = 0 })
+unfolding slotRows slotCheckOf
+check-invalid t a s bad wanted need e = record {
+  whole = rw (e, slotCheckOf) refl;
   reply = rw e refl;
   done = rw e refl;
   target = λ h. absurd (false≢true h);
@@ -96,20 +96,20 @@ look-invalid t a s bad wanted need e = record {
 
 -- the result put together of its fields
 seen-is : {r r' : Reply} {d d' : Bool} (g h k : ℕ) → r ≡ r' → d ≡ d'
-    → _≡_ {A = Seen} (record { reply = r; done = d; target = g; rights = h; kind = k }) (record { reply = r'; done = d'; target = g; rights = h; kind = k })
-seen-is g h k e f = ap₂ {C = Seen} (λ (r : Reply) (d : Bool). record { reply = r; done = d; target = g; rights = h; kind = k }) e f
+    → _≡_ {A = SlotCheck} (record { reply = r; done = d; target = g; rights = h; kind = k }) (record { reply = r'; done = d'; target = g; rights = h; kind = k })
+seen-is g h k e f = ap₂ {C = SlotCheck} (λ (r : Reply) (d : Bool). record { reply = r; done = d; target = g; rights = h; kind = k }) e f
 
 seen-place : (t : Table) (a s : ℕ) (bad : Bool) (wanted : ℕ) (need : Need) → badPlace a s bad ≡ false
-    → _≡_ {A = Seen} (record { reply = slotRows t a s bad wanted need; done = isDone (slotRows t a s bad wanted need); target = targetOf t a s; rights = rightsOf t a s; kind = targetRecord t a s .kind }) (seenOf t a s bad wanted need)
-unfolding seenOf
-seen-place t a s bad wanted need f = rw (f, seenOf) refl
+    → _≡_ {A = SlotCheck} (record { reply = slotRows t a s bad wanted need; done = isDone (slotRows t a s bad wanted need); target = targetOf t a s; rights = rightsOf t a s; kind = targetRecord t a s .kind }) (slotCheckOf t a s bad wanted need)
+unfolding slotCheckOf
+seen-place t a s bad wanted need f = rw (f, slotCheckOf) refl
 
 -- `met` and `born` are what the code found of the right and of the target
 module _ (t : Table) (a s : ℕ) (bad : Bool) (wanted : ℕ) (need : Need) (met born : Bool) (reply : Reply) where
   abbrev other : Bool
   other = born && not (eqb (targetRecord t a s .status) wanted)
 
-  abbrev saw : Seen
+  abbrev saw : SlotCheck
   saw = record {
     reply = reply;
     done = not (unfit (recordAt t a) || isEmpty (slotAt t a s) || other || not met);
@@ -118,10 +118,10 @@ module _ (t : Table) (a s : ℕ) (bad : Bool) (wanted : ℕ) (need : Need) (met 
     kind = targetRecord t a s .kind;
   }
 
-  pub look-seen : Sized t → sound t ≡ true → badPlace a s bad ≡ false → met ≡ needMet need (rightsOf t a s) → born ≡ isBorn (targetRecord t a s)
-      → reply ≡ firstOf false (unfit (recordAt t a)) (isEmpty (slotAt t a s)) other (not met) → Looked t a s bad wanted need saw
+  pub check-seen : Sized t → sound t ≡ true → badPlace a s bad ≡ false → met ≡ needMet need (rightsOf t a s) → born ≡ isBorn (targetRecord t a s)
+      → reply ≡ firstOf false (unfit (recordAt t a)) (isEmpty (slotAt t a s)) other (not met) → SlotChecked t a s bad wanted need saw
   unfolding slotRows throughSlot through
-  look-seen z ok f m b e =
+  check-seen z ok f m b e =
       let p = placed a s bad f in
       let r : firstOf false (unfit (recordAt t a)) (isEmpty (slotAt t a s)) other (not met) ≡ slotRows t a s bad wanted need = rw (f, m, b) refl in
       let d = first-done (unfit (recordAt t a)) (isEmpty (slotAt t a s)) other (not met) ∙ ap isDone r in
@@ -157,6 +157,6 @@ unfolding slotRows throughSlot through
 rows-first t a s bad wanted need last e =
     then-first (badPlace a s bad) (unfit (recordAt t a)) (isEmpty (slotAt t a s)) (otherStatus wanted (targetRecord t a s)) (not (needMet need (rightsOf t a s))) last e
 
-pub seen-done : (t : Table) (a s : ℕ) (bad : Bool) (wanted : ℕ) (need : Need) (seen : Seen) → Looked t a s bad wanted need seen → seen .done ≡ true → seen .reply ≡ Done
+pub seen-done : (t : Table) (a s : ℕ) (bad : Bool) (wanted : ℕ) (need : Need) (seen : SlotCheck) → SlotChecked t a s bad wanted need seen → seen .done ≡ true → seen .reply ≡ Done
 unfolding slotRows
 seen-done t a s bad wanted need seen looked d = looked .reply ∙ rows-last t a s bad wanted need Done (sym (looked .done) ∙ d)

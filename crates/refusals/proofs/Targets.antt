@@ -11,7 +11,7 @@ use Rattle.table.specs.declared.Record.{Record}
 use Rattle.table.specs.declared.Table.{Table}
 use Rattle.table.specs.Soundness.{sound}
 use Rattle.table.proofs.Cells.{Sized, record-high}
-use Rattle.table.proofs.Facts.{sound-facts}
+use Rattle.table.proofs.SoundFacts.{sound-facts}
 use Rattle.refusals.specs.Refusals.{targetOf, rightsOf}
 
 pub target-below : (t : Table) (a s : ℕ) → Sized t → sound t ≡ true → s < 8 → targetOf t a s < 64

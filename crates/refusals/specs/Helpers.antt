@@ -1,4 +1,4 @@
--- The parts of a refusal that the code's helpers promise: rows 2 to 6 by their tests, what looking at a slot tells, and a list whose
+-- The parts of a refusal that the code's helpers promise: rows 2 to 6 by their tests, what the check of a slot tells, and a list whose
 -- pairs are slots. They add nothing to what a request is refused for.
 use mathlib.Core.Path.{_≡_}
 use mathlib.Core.Bool.{Bool, true, false, _||_}
@@ -10,7 +10,7 @@ use Rattle.requests.specs.Asks.{pairAt}
 use Rattle.refusals.specs.declared.Need.{Need}
 use Rattle.refusals.specs.declared.Reply.{Reply}
 use Rattle.refusals.specs.declared.Reply.the-variants.{Done, FieldInvalid, ActorUnfit, SlotEmpty, TargetDead, RightAbsent}
-use Rattle.refusals.specs.declared.Seen.{Seen}
+use Rattle.refusals.specs.declared.SlotCheck.{SlotCheck}
 use Rattle.refusals.specs.Replies.{isDone}
 use Rattle.refusals.specs.Refusals.{refuse, noObject, noSlot, unfit, targetOf, targetRecord, rightsOf, throughSlot}
 
@@ -28,10 +28,10 @@ unfoldable pub slotRows : Table → ℕ → ℕ → Bool → ℕ → Need → Re
 slotRows t a s bad wanted need =
     refuse (badPlace a s bad) FieldInvalid (refuse (unfit (recordAt t a)) ActorUnfit (throughSlot t a s wanted need Done))
 
--- what looking at the slot tells: the reply, whether that is "done", the slot that it saw and its target's kind; of a place that is
+-- what the check of the slot tells: the reply, whether that is "done", the slot that it saw and its target's kind; of a place that is
 -- none, the reply alone
-unfoldable pub seenOf : Table → ℕ → ℕ → Bool → ℕ → Need → Seen
-seenOf t a s bad wanted need = elim (badPlace a s bad) [
+unfoldable pub slotCheckOf : Table → ℕ → ℕ → Bool → ℕ → Need → SlotCheck
+slotCheckOf t a s bad wanted need = elim (badPlace a s bad) [
   | true ↦ record { reply = FieldInvalid; done = false; target = 0; rights = 0; kind = 0 }
   | false ↦ record {
     reply = slotRows t a s bad wanted need;
@@ -43,8 +43,8 @@ seenOf t a s bad wanted need = elim (badPlace a s bad) [
 ]
 
 -- the same as an equation, with what follows of it in a sound table
-pub record Looked (t : Table) (a s : ℕ) (bad : Bool) (wanted : ℕ) (need : Need) (seen : Seen) : Type 0 where
-  pub whole : seen ≡ seenOf t a s bad wanted need
+pub record SlotChecked (t : Table) (a s : ℕ) (bad : Bool) (wanted : ℕ) (need : Need) (seen : SlotCheck) : Type 0 where
+  pub whole : seen ≡ slotCheckOf t a s bad wanted need
   pub reply : seen .reply ≡ slotRows t a s bad wanted need
   pub done : seen .done ≡ isDone (slotRows t a s bad wanted need)
   pub target : seen .done ≡ true → seen .target ≡ targetOf t a s

@@ -7,7 +7,7 @@ ghost use mathlib.Core.Bool.{true};
 ghost use Rattle.table.specs.Soundness.{sound};
 ghost use Rattle.requests.specs.Asks.{pairsOf};
 ghost use Rattle.refusals.specs.Refusals.{badList, needMet};
-ghost use Rattle.refusals.specs.Helpers.{firstOf, Looked};
+ghost use Rattle.refusals.specs.Helpers.{firstOf, SlotChecked};
 
 // The status that every request wants of its target.
 pub const ALIVE: u8 = 1;
@@ -35,7 +35,7 @@ pub enum Reply {
 
 // What the checks of a request through a slot saw: the reply, whether it is "done", and then the slot's capability and its
 // target's kind.
-pub struct Seen {
+pub struct SlotCheck {
     pub reply: Reply,
     pub done: bool,
     pub target: u8,
@@ -96,12 +96,12 @@ pub fn first_of(bad: bool, unfit: bool, empty: bool, other: bool, unable: bool) 
 
 // Rows 2 to 6 for the actor's slot s. `bad` says whether a field besides these two is out of range, `wanted` which status the
 // target is to have.
-pub fn look(t: Table, actor: u8, s: u8, bad: bool, wanted: u8, need: Need) -> Seen
+pub fn check_slot(t: Table, actor: u8, s: u8, bad: bool, wanted: u8, need: Need) -> SlotCheck
     requires { ⌜ sound t ≡ true ⌝ }
-    ensures { λ r. ⌜ Looked t actor s bad wanted need r ⌝ }
+    ensures { λ r. ⌜ SlotChecked t actor s bad wanted need r ⌝ }
 {
     if (63 < actor) | (7 < s) | bad {
-        return Seen {
+        return SlotCheck {
             reply: Reply::FieldInvalid,
             done: false,
             target: 0,
@@ -119,7 +119,7 @@ pub fn look(t: Table, actor: u8, s: u8, bad: bool, wanted: u8, need: Need) -> Se
     let other = table::is_born(b) & !(b.status == wanted);
     let met = need_met(need, c.rights);
     let reply = first_of(false, unfit, empty, other, !met);
-    Seen {
+    SlotCheck {
         reply: reply,
         done: !(unfit | empty | other | !met),
         target: c.target,

@@ -18,10 +18,10 @@ use Rattle.refusals.specs.declared.Need.the-variants.{ReadOrWeak, Write, Send}
 use Rattle.requests.specs.declared.PairList.{PairList}
 use Rattle.refusals.specs.declared.Reply.{Reply}
 use Rattle.refusals.specs.declared.Reply.the-variants.{Done, TargetPassive, ActorItself, NotInStock}
-use Rattle.refusals.specs.declared.Seen.{Seen}
+use Rattle.refusals.specs.declared.SlotCheck.{SlotCheck}
 use Rattle.requests.specs.Asks.{read, write, fetch, store, revoke, send, allocate, destroy, unknown, pairsOf}
 use Rattle.refusals.specs.Refusals.{refuse, alive, noObject, noSlot, badList, badField, notInStock, targetOf, laterRows}
-use Rattle.refusals.specs.Helpers.{Looked, PairsFit}
+use Rattle.refusals.specs.Helpers.{SlotChecked, PairsFit}
 use Rattle.refusals.proofs.Lists.{pairs-fit}
 use Rattle.steps.proofs.Ways.{Uses, Fields, Later}
 
@@ -29,8 +29,8 @@ use Rattle.steps.proofs.Ways.{Uses, Fields, Later}
 abbrev pub passiveRow : Table → ℕ → Reply
 passiveRow t g = refuse (not (isActive (recordAt t g))) TargetPassive Done
 
--- row 7 by the kind that looking saw
-pub passive-seen : {t : Table} {a s : ℕ} {bad : Bool} {wanted : ℕ} {need : Need} {seen : Seen} → Looked t a s bad wanted need seen → seen .done ≡ true
+-- row 7 by the kind that the check saw
+pub passive-seen : {t : Table} {a s : ℕ} {bad : Bool} {wanted : ℕ} {need : Need} {seen : SlotCheck} → SlotChecked t a s bad wanted need seen → seen .done ≡ true
     → passiveRow t (seen .target) ≡ refuse (not (eqb (seen .kind) 1)) TargetPassive Done
 passive-seen looked d = rw (looked .target d, looked .kind d) refl
 

@@ -1,6 +1,6 @@
 -- The ways out of a request on a sound table. Through a slot: refused by rows 2 to 6, refused by a last check, done; each law is
 -- stated once, over the need, the last check and the effect. Through no slot: refused by its fields, its actor, its later rows,
--- done. By what looking tells and the laws of a refused and a done step. Assumes nothing.
+-- done. By what the check of a slot tells and the laws of a refused and a done step. Assumes nothing.
 use mathlib.Core.Path.{_≡_, refl, sym, _∙_, ap, ap₂}
 use mathlib.Core.Bool.{Bool, true, false, not, _||_}
 use Prim.Native.Nat.{ℕ}
@@ -13,14 +13,14 @@ use Rattle.requests.specs.declared.PairList.{PairList}
 use Rattle.refusals.specs.declared.Reply.{Reply}
 use Rattle.refusals.specs.declared.Reply.the-variants.{Done, TableUnsound, FieldInvalid, ActorUnfit}
 use Rattle.requests.specs.declared.Request.{Request}
-use Rattle.refusals.specs.declared.Seen.{Seen}
+use Rattle.refusals.specs.declared.SlotCheck.{SlotCheck}
 use Rattle.steps.specs.declared.Stepped.{Stepped}
 use Rattle.requests.specs.Asks.{Ask, actorOf, askOf}
 use Rattle.refusals.specs.Replies.{isDone}
 use Rattle.refusals.specs.Refusals.{refuse, noObject, noSlot, badField, unfit, targetOf, rightsOf, throughSlot, laterRows, refusal}
 use Rattle.effects.specs.Effects.{effect}
 use Rattle.steps.specs.Steps.{stepOf}
-use Rattle.refusals.specs.Helpers.{Looked}
+use Rattle.refusals.specs.Helpers.{SlotChecked}
 use Rattle.steps.proofs.Refused.{step-refused, step-done}
 use Rattle.refusals.proofs.Rows.{rowsThen, rows-last, rows-first, seen-done}
 
@@ -37,8 +37,8 @@ unfolding refusal
 refusal-sound t q ok = rw ok refl
 
 -- `last` is a function of the target, so that what the code tests of the target that it saw decides it
-module _ {t : Table} {q : Ask} {a s : ℕ} {bad : Bool} {wanted : ℕ} {need : Need} (last : ℕ → Reply) {seen : Seen}
-    (ok : sound t ≡ true) (uses : Uses t q a s bad wanted need (last (targetOf t a s))) (looked : Looked t a s bad wanted need seen) where
+module _ {t : Table} {q : Ask} {a s : ℕ} {bad : Bool} {wanted : ℕ} {need : Need} (last : ℕ → Reply) {seen : SlotCheck}
+    (ok : sound t ≡ true) (uses : Uses t q a s bad wanted need (last (targetOf t a s))) (looked : SlotChecked t a s bad wanted need seen) where
   refusal-then : refusal t q ≡ rowsThen t a s bad wanted need (last (targetOf t a s))
   refusal-then = refusal-sound t q ok ∙ rw (uses .fields, uses .actor, uses .later) refl
 
@@ -56,15 +56,15 @@ module _ {t : Table} {q : Ask} {a s : ℕ} {bad : Bool} {wanted : ℕ} {need : N
       → _≡_ {A = Stepped} (record { reply = why; table = t }) (stepOf t q)
   last-refused h {why} e f = step-refused t q why (refusal-last (not-false _ h) ∙ e) f
 
-  -- done: the effect is a function of the target and the rights that looking saw
+  -- done: the effect is a function of the target and the rights that the check saw
   pub last-done : not (seen .done) ≡ false → last (seen .target) ≡ Done → (f : ℕ → ℕ → Table) → f (targetOf t a s) (rightsOf t a s) ≡ effect t q
       → {u : Table} → u ≡ f (seen .target) (seen .rights) → _≡_ {A = Stepped} (record { reply = Done; table = u }) (stepOf t q)
   last-done h e f g {u} k =
       let d = not-false _ h in
       step-done t q Done u (refusal-last d ∙ e) refl (k ∙ ap₂ f (looked .target d) (looked .rights d) ∙ g)
 
--- the same where row 6 is the last check, and the reply is the one that looking gave
-pub through-done : {t : Table} {q : Ask} {a s : ℕ} {bad : Bool} {wanted : ℕ} {need : Need} {seen : Seen} → sound t ≡ true → Uses t q a s bad wanted need Done → Looked t a s bad wanted need seen
+-- the same where row 6 is the last check, and the reply is the one that the check gave
+pub through-done : {t : Table} {q : Ask} {a s : ℕ} {bad : Bool} {wanted : ℕ} {need : Need} {seen : SlotCheck} → sound t ≡ true → Uses t q a s bad wanted need Done → SlotChecked t a s bad wanted need seen
     → not (seen .done) ≡ false → (f : ℕ → ℕ → Table) → f (targetOf t a s) (rightsOf t a s) ≡ effect t q
     → {u : Table} → u ≡ f (seen .target) (seen .rights) → _≡_ {A = Stepped} (record { reply = seen .reply; table = u }) (stepOf t q)
 through-done {t} {q} {a} {s} {bad} {wanted} {need} {seen} ok uses looked h f g {u} k =

@@ -9,7 +9,7 @@ use refusals::ALIVE;
 use refusals::Need;
 use refusals::Reply;
 use refusals::list_bad;
-use refusals::look;
+use refusals::check_slot;
 use requests::PairList;
 use table::Capability;
 use table::Record;
@@ -27,7 +27,7 @@ pub fn read(t: Table, actor: u8, s: u8) -> Stepped
     requires { ⌜ sound t ≡ true ⌝ }
     ensures { λ r. ⌜ r ≡ stepOf t (readAsk actor s) ⌝ }
 {
-    let v = look(t, actor, s, false, ALIVE, Need::ReadOrWeak);
+    let v = check_slot(t, actor, s, false, ALIVE, Need::ReadOrWeak);
     let reply = v.reply;
     let mut u = t;
     if !v.done {
@@ -51,7 +51,7 @@ pub fn write(t: Table, actor: u8, s: u8, word: u32) -> Stepped
     requires { ⌜ sound t ≡ true ⌝ }
     ensures { λ r. ⌜ r ≡ stepOf t (writeAsk actor s word) ⌝ }
 {
-    let v = look(t, actor, s, false, ALIVE, Need::Write);
+    let v = check_slot(t, actor, s, false, ALIVE, Need::Write);
     let reply = v.reply;
     let mut u = t;
     if !v.done {
@@ -73,7 +73,7 @@ pub fn fetch(t: Table, actor: u8, s: u8, i: u8, j: u8) -> Stepped
     requires { ⌜ sound t ≡ true ⌝ }
     ensures { λ r. ⌜ r ≡ stepOf t (fetchAsk actor s i j) ⌝ }
 {
-    let v = look(t, actor, s, (7 < i) | (7 < j), ALIVE, Need::ReadOrWeak);
+    let v = check_slot(t, actor, s, (7 < i) | (7 < j), ALIVE, Need::ReadOrWeak);
     let reply = v.reply;
     let mut u = t;
     if !v.done {
@@ -98,7 +98,7 @@ pub fn store(t: Table, actor: u8, s: u8, i: u8, j: u8) -> Stepped
     requires { ⌜ sound t ≡ true ⌝ }
     ensures { λ r. ⌜ r ≡ stepOf t (storeAsk actor s i j) ⌝ }
 {
-    let v = look(t, actor, s, (7 < i) | (7 < j), ALIVE, Need::Write);
+    let v = check_slot(t, actor, s, (7 < i) | (7 < j), ALIVE, Need::Write);
     let reply = v.reply;
     let mut u = t;
     if !v.done {
@@ -122,7 +122,7 @@ pub fn revoke(t: Table, actor: u8, s: u8, j: u8) -> Stepped
     requires { ⌜ sound t ≡ true ⌝ }
     ensures { λ r. ⌜ r ≡ stepOf t (revokeAsk actor s j) ⌝ }
 {
-    let v = look(t, actor, s, 7 < j, ALIVE, Need::Write);
+    let v = check_slot(t, actor, s, 7 < j, ALIVE, Need::Write);
     let reply = v.reply;
     let mut u = t;
     if !v.done {
@@ -147,7 +147,7 @@ pub fn send(t: Table, actor: u8, s: u8, word: u32, l: PairList, reply: u8) -> St
     requires { ⌜ sound t ≡ true ⌝ }
     ensures { λ r. ⌜ r ≡ stepOf t (sendAsk actor s word (pairsOf l) reply) ⌝ }
 {
-    let v = look(t, actor, s, list_bad(l) | (8 < reply), ALIVE, Need::Send);
+    let v = check_slot(t, actor, s, list_bad(l) | (8 < reply), ALIVE, Need::Send);
     let why = v.reply;
     if !v.done {
         return Stepped {
@@ -214,7 +214,7 @@ pub fn destroy(t: Table, actor: u8, s: u8) -> Stepped
     requires { ⌜ sound t ≡ true ⌝ }
     ensures { λ r. ⌜ r ≡ stepOf t (destroyAsk actor s) ⌝ }
 {
-    let v = look(t, actor, s, false, ALIVE, Need::Write);
+    let v = check_slot(t, actor, s, false, ALIVE, Need::Write);
     let why = v.reply;
     if !v.done {
         return Stepped {

@@ -1,6 +1,6 @@
 pub mod Lists
 pub mod Cells
-pub mod Facts
+pub mod SoundFacts
 pub mod Scan
 pub mod Glances
 pub mod Places

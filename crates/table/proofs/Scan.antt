@@ -18,7 +18,7 @@ use Rattle.table.specs.declared.Record.{Record}
 use Rattle.table.specs.declared.Table.{Table}
 use Rattle.table.specs.Cells.{recordAt, slotAt, statusAt, stockAt, unbornRecord, isBorn, bornAt}
 use Rattle.table.specs.Soundness.{recordSound, idleSlotSound, filledSound, slotSound, stockSound, soundAt, sound}
-use Rattle.table.proofs.Facts.{RecordFine, record-fine, born-pos, pos-born, SoundAt, sound-at, at-sound, fine-stock, stock-fine}
+use Rattle.table.proofs.SoundFacts.{RecordFine, record-fine, born-pos, pos-born, SoundAt, sound-at, at-sound, fine-stock, stock-fine}
 
 -- the born numbers -----------------------------------------------------------------------
 unfoldable pub bornSet : Table → ℕ

@@ -1,4 +1,4 @@
--- `image::number_of` meets its contract. The loop's invariant: `n` is the number of the first `i` bytes, and below 256 to the `i`,
+-- `octets::number_of` meets its contract. The loop's invariant: `n` is the number of the first `i` bytes, and below 256 to the `i`,
 -- so that with eight bytes at most no step wraps. Assumes nothing.
 use mathlib.Core.Path.{_≡_, refl, sym, _∙_, ap, ap₂}
 use Prim.Native.Nat.{ℕ, _≤_, _<_, _+_, _-_, _*_, _^_}

@@ -1,4 +1,4 @@
--- `image::put_number` meets its contract. The loop's invariant, `Put`: from `i` on stand the number's lowest bytes, and `rest` is
+-- `octets::put_number` meets its contract. The loop's invariant, `Put`: from `i` on stand the number's lowest bytes, and `rest` is
 -- what is above them. Assumes nothing.
 use lib.ListN.{length}
 use Rattle.octets.proofs.BigEndian.{Put, put-none, put-more, put-all}

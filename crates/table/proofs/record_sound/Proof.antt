@@ -1,5 +1,5 @@
 -- `record_sound` is the definition: each way out by the status and what else the record has there. Assumes nothing.
-use Rattle.table.proofs.Facts.{alive-record, idle-record, unborn-record, dead-record}
+use Rattle.table.proofs.SoundFacts.{alive-record, idle-record, unborn-record, dead-record}
 use borrow.Author.Needs.{needs}
 use Rattle.table.proofs.record_sound.Statement.{statement}
 use Rattle.table.proofs.record_sound.Tie as tie

@@ -1,4 +1,4 @@
--- `destroy` is its step: what looking saw decides, then whether the target is the actor, and the effect is what `destroyed`
+-- `destroy` is its step: what the check of its slot saw decides, then whether the target is the actor, and the effect is what `destroyed`
 -- ensures. By the laws of a request through a slot with a last check. Assumes nothing.
 use mathlib.Core.Path.{refl}
 use borrow.Author.Tests.{eq-eqb, ne-eqb, not-false}
@@ -10,25 +10,25 @@ use borrow.Author.Needs.{needs}
 use Rattle.steps.proofs.each.destroy.Statement.{statement}
 use Rattle.steps.proofs.each.destroy.Tie as tie
 
-look-requires : tie.Need-look-requires
-look-requires c κs = search needs
+check-slot-requires : tie.Need-check-slot-requires
+check-slot-requires c κs = search needs
 
 returns : tie.Need-returns
-returns c = through-refused (itselfRow (c .before .before .before .args .actor)) (c .before .before .before .pre) destroy-uses (c .before .before .look .ensures) (c .if1 .taken)
+returns c = through-refused (itselfRow (c .before .before .before .args .actor)) (c .before .before .before .pre) destroy-uses (c .before .before .check-slot .ensures) (c .if1 .taken)
 
 returns-2 : tie.Need-returns-2
-returns-2 c = last-refused (itselfRow (c .before .before .before .before .args .actor)) (c .before .before .before .before .pre) destroy-uses (c .before .before .before .look .ensures) (c .before .if1 .left) (refuse-yes _ _ _ (eq-eqb _ _ (c .if2 .taken))) refl
+returns-2 c = last-refused (itselfRow (c .before .before .before .before .args .actor)) (c .before .before .before .before .pre) destroy-uses (c .before .before .before .check-slot .ensures) (c .before .if1 .left) (refuse-yes _ _ _ (eq-eqb _ _ (c .if2 .taken))) refl
 
 destroyed-requires : tie.Need-destroyed-requires
-destroyed-requires c κs = let v = c .before .before .before .look in
+destroyed-requires c κs = let v = c .before .before .before .check-slot in
     let d = not-false (v .result .done) (c .before .if1 .left) in (v .ensures .actor d, v .ensures .within d)
 
 returns-3 : tie.Need-returns-3
 unfolding effect
 returns-3 c = let s = c .before .before .before .before .before in
     let a = s .args in
-    last-done (itselfRow (a .actor)) (s .pre) destroy-uses (c .before .before .before .before .look .ensures) (c .before .before .if1 .left) (refuse-no _ _ _ (ne-eqb _ _ (c .before .if2 .left)))
+    last-done (itselfRow (a .actor)) (s .pre) destroy-uses (c .before .before .before .before .check-slot .ensures) (c .before .before .if1 .left) (refuse-no _ _ _ (ne-eqb _ _ (c .before .if2 .left)))
     (λ g r. destroyed (a .t) (a .actor) g) refl (c .destroyed .ensures)
 
 pub destroy-spec : {M : Type 1} → statement M
-destroy-spec = tie.close (tie.spec look-requires returns returns-2 destroyed-requires returns-3)
+destroy-spec = tie.close (tie.spec check-slot-requires returns returns-2 destroyed-requires returns-3)

@@ -1,4 +1,4 @@
--- `revoke` is its step: what looking saw decides, and the effect is one slot of the target, emptied. By the laws of a request
+-- `revoke` is its step: what the check of its slot saw decides, and the effect is one slot of the target, emptied. By the laws of a request
 -- through a slot. Assumes nothing.
 use mathlib.Core.Path.{refl}
 use native.Mathlib.Omega.{arith}
@@ -13,11 +13,11 @@ use borrow.Author.Needs.{needs}
 use Rattle.steps.proofs.each.revoke.Statement.{statement}
 use Rattle.steps.proofs.each.revoke.Tie as tie
 
-look-requires : tie.Need-look-requires
-look-requires c κs = search needs
+check-slot-requires : tie.Need-check-slot-requires
+check-slot-requires c κs = search needs
 
 returns : tie.Need-returns
-returns c = through-refused (λ g. Done) (c .before .before .before .pre) revoke-uses (c .before .before .look .ensures) (c .if1 .taken)
+returns c = through-refused (λ g. Done) (c .before .before .before .pre) revoke-uses (c .before .before .check-slot .ensures) (c .if1 .taken)
 
 cast-g : tie.Need-cast-g
 cast-g c = search needs
@@ -32,7 +32,7 @@ mul-t16 : tie.Need-mul-t16
 mul-t16 c = search needs
 
 element-set-from-u : tie.Need-element-set-from-u
-element-set-from-u c = let v = c .before .before .before .look in
+element-set-from-u c = let v = c .before .before .before .check-slot in
     let d = not-false (v .result .done) (c .before .if1 .left) in
     omega (arith, v .ensures .within d, slot-placed (c .before .before .before .before .args .j) (v .ensures .fields d))
 
@@ -40,9 +40,9 @@ returns-2 : tie.Need-returns-2
 unfolding effect
 returns-2 c = let s = c .before .before .before .before in
     let a = s .args in
-    through-done (s .pre) revoke-uses (c .before .before .before .look .ensures) (c .before .if1 .left) (λ g r. putSlot (a .t) g (a .j) emptySlot) refl refl
+    through-done (s .pre) revoke-uses (c .before .before .before .check-slot .ensures) (c .before .if1 .left) (λ g r. putSlot (a .t) g (a .j) emptySlot) refl refl
 
 pub revoke-spec : {M : Type 1} → statement M
 revoke-spec =
     tie.close
-    (tie.spec look-requires returns cast-g mul-t13 add-t15 mul-t16 element-set-from-u returns-2)
+    (tie.spec check-slot-requires returns cast-g mul-t13 add-t15 mul-t16 element-set-from-u returns-2)

@@ -1,4 +1,4 @@
--- `write` is its step: what looking saw decides, and the effect is one record, put. By the laws of a request through a slot.
+-- `write` is its step: what the check of its slot saw decides, and the effect is one record, put. By the laws of a request through a slot.
 -- Assumes nothing.
 use mathlib.Core.Path.{refl}
 use borrow.Author.Tests.{not-false}
@@ -11,11 +11,11 @@ use borrow.Author.Needs.{needs}
 use Rattle.steps.proofs.each.write.Statement.{statement}
 use Rattle.steps.proofs.each.write.Tie as tie
 
-look-requires : tie.Need-look-requires
-look-requires c κs = search needs
+check-slot-requires : tie.Need-check-slot-requires
+check-slot-requires c κs = search needs
 
 returns : tie.Need-returns
-returns c = through-refused (λ g. Done) (c .before .before .before .pre) write-uses (c .before .before .look .ensures) (c .if1 .taken)
+returns c = through-refused (λ g. Done) (c .before .before .before .pre) write-uses (c .before .before .check-slot .ensures) (c .if1 .taken)
 
 cast-g : tie.Need-cast-g
 cast-g c = search needs
@@ -24,14 +24,14 @@ mul-u : tie.Need-mul-u
 mul-u c = search needs
 
 way-write-given-u : tie.Need-way-write-given-u
-way-write-given-u c = (c .before .before .before .look .ensures .within (not-false _ (c .before .if1 .left)), tt)
+way-write-given-u c = (c .before .before .before .check-slot .ensures .within (not-false _ (c .before .if1 .left)), tt)
 
 returns-2 : tie.Need-returns-2
 unfolding effect
 returns-2 c = let s = c .before .before .before .before .before in
     let a = s .args in
-    through-done (s .pre) write-uses (c .before .before .before .before .look .ensures) (c .before .before .if1 .left)
+    through-done (s .pre) write-uses (c .before .before .before .before .check-slot .ensures) (c .before .before .if1 .left)
     (λ g r. putRecord (a .t) g (withWord (recordAt (a .t) g) (a .word))) refl refl
 
 pub write-spec : {M : Type 1} → statement M
-write-spec = tie.close (tie.spec look-requires returns cast-g mul-u way-write-given-u returns-2)
+write-spec = tie.close (tie.spec check-slot-requires returns cast-g mul-u way-write-given-u returns-2)

@@ -1,15 +1,15 @@
--- `look` tells rows 2 to 6 and what the slot holds. The target's record is read without a test: in a sound table every slot's
+-- `check_slot` tells rows 2 to 6 and what the slot holds. The target's record is read without a test: in a sound table every slot's
 -- target is below 64. Assumes nothing.
 use native.Mathlib.Omega.{arith}
 use Rattle.table.proofs.Value.{value-sized}
-use Rattle.refusals.proofs.Rows.{placed, look-invalid, look-seen}
+use Rattle.refusals.proofs.Rows.{placed, check-invalid, check-seen}
 use Rattle.refusals.proofs.Targets.{target-below}
 use borrow.Author.Needs.{needs}
-use Rattle.refusals.proofs.look.Statement.{statement}
-use Rattle.refusals.proofs.look.Tie as tie
+use Rattle.refusals.proofs.check_slot.Statement.{statement}
+use Rattle.refusals.proofs.check_slot.Tie as tie
 
 returns : tie.Need-returns
-returns c = let a = c .before .args in look-invalid (a .t1) (a .actor) (a .s) (a .bad) (a .wanted) (a .need) (c .if1 .taken)
+returns c = let a = c .before .args in check-invalid (a .t1) (a .actor) (a .s) (a .bad) (a .wanted) (a .need) (c .if1 .taken)
 
 mul-a : tie.Need-mul-a
 mul-a c = search needs
@@ -52,10 +52,10 @@ first-of-requires c κs = search needs
 returns-2 : tie.Need-returns-2
 returns-2 c = let s = c .before .before .before .before .before .before .before .before .before .before .before .before .before in
     let a = s .args in
-    look-seen (a .t1) (a .actor) (a .s) (a .bad) (a .wanted) (a .need) _ _ _ (value-sized (a .t1) _ (s .good .0)) (s .pre) (c .before .before .before .before .before .before .before .before .before .before .before .before .if1 .left) (c .before .need-met .ensures) (c .before .before .before .is-born .ensures) (c .first-of .ensures)
+    check-seen (a .t1) (a .actor) (a .s) (a .bad) (a .wanted) (a .need) _ _ _ (value-sized (a .t1) _ (s .good .0)) (s .pre) (c .before .before .before .before .before .before .before .before .before .before .before .before .if1 .left) (c .before .need-met .ensures) (c .before .before .before .is-born .ensures) (c .first-of .ensures)
 
-pub look-spec : {M : Type 1} → statement M
-look-spec =
+pub check-slot-spec : {M : Type 1} → statement M
+check-slot-spec =
     tie.close
     (tie.spec
     returns
