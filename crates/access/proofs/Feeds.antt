@@ -15,7 +15,7 @@ use Rattle.mask.proofs.Tests.{byCases, byEq, or-none}
 use Rattle.mask.proofs.Bits.{has-zero}
 use Rattle.mask.proofs.Words.{has-or}
 use Rattle.access.specs.Relation.{Right, rd, wr, wk, tx, bitAt}
-use Rattle.access.specs.Words.{place, wordAt, Feed, feed, feedAll, shares, viaRead, viaWeak, viaPush, rules, heldOver, rowPass, passOf, Still, Full}
+use Rattle.access.specs.Helpers.{place, wordAt, Feed, feed, feedAll, shares, viaRead, viaWeak, viaPush, rules, heldOver, rowPass, passOf, AddsNothing, Full}
 
 or-high : (a b : ℕ) → a ≤ bitOr a b
 or-high a b = omega (arith, or-add-and a b, and-le-r a b)
@@ -144,7 +144,7 @@ unfolding feedAll
 all-grows [] r = omega arith
 all-grows (f ∷ fs) r = omega (arith, feed-grows r f, all-grows fs (feed r f))
 
-all-still : (fs : List Feed) (r : List ℕ) → total (feedAll r fs) ≤ total r → (feedAll r fs ≡ r) × Still r fs
+all-still : (fs : List Feed) (r : List ℕ) → total (feedAll r fs) ≤ total r → (feedAll r fs ≡ r) × AddsNothing r fs
 unfolding feedAll
 all-still [] r l = (refl, tt)
 all-still (f ∷ fs) r l =
@@ -152,14 +152,14 @@ all-still (f ∷ fs) r l =
     let p = all-still fs r (subst (λ (q : List ℕ). total (feedAll q fs) ≤ total r) e l) in
     (subst⁻¹ (λ (q : List ℕ). feedAll q fs ≡ r) e (p .0), (e, p .1))
 
-pub pass-still : (r : List ℕ) (k : ℕ) → total (passOf r k) ≤ total r → (passOf r k ≡ r) × ((i : ℕ) → i < k → Still r (rules (i / 64) (i % 64)))
+pub pass-still : (r : List ℕ) (k : ℕ) → total (passOf r k) ≤ total r → (passOf r k ≡ r) × ((i : ℕ) → i < k → AddsNothing r (rules (i / 64) (i % 64)))
 unfolding passOf
 pass-still r zero l = (refl, λ i h. absurd (omega arith))
 pass-still r (suc k) l =
     let p = pass-still r k (omega (arith, all-grows (rules (k / 64) (k % 64)) (passOf r k))) in
     let q = all-still (rules (k / 64) (k % 64)) r (subst (λ (w : List ℕ). total (feedAll w (rules (k / 64) (k % 64))) ≤ total r) (p .0) l) in (
       subst⁻¹ (λ (w : List ℕ). feedAll w (rules (k / 64) (k % 64)) ≡ r) (p .0) (q .0),
-      λ i h. byEq i k (λ e. subst⁻¹ (λ (j : ℕ). Still r (rules (j / 64) (j % 64))) e (q .1)) (λ e. p .1 i (omega arith)),
+      λ i h. byEq i k (λ e. subst⁻¹ (λ (j : ℕ). AddsNothing r (rules (j / 64) (j % 64))) e (q .1)) (λ e. p .1 i (omega arith)),
     )
 
 pub more-words : (r t : List ℕ) → t ≡ passOf r 4096 → (r ≡ t → ⊥) → total r < total t

@@ -3,4 +3,5 @@ pub mod Exact
 pub mod Feeds
 pub mod Saturation
 pub mod Marks
+pub mod StartWords
 pub mod TableWords

@@ -20,7 +20,7 @@ use Rattle.access.specs.Relation.{Right, rd, wr, wk, tx, bitAt, Holding,
 use Rattle.access.specs.Closure.{rowOf}
 use Rattle.access.specs.Exactness.{Low}
 use Rattle.access.specs.Answers.{rightAt}
-use Rattle.access.specs.Words.{place, wordAt, Full, Feed, feed, feedAll, viaRead, viaWeak, viaPush, rules, passOf, Still, Kept, Derived, Saturated}
+use Rattle.access.specs.Helpers.{place, wordAt, Full, Feed, feed, feedAll, viaRead, viaWeak, viaPush, rules, passOf, AddsNothing, Kept, Derived, Saturated}
 use Rattle.access.proofs.Exact.{Means, means, row-can, can-row, row-lt}
 use Rattle.access.proofs.Feeds.{total, pass-still}
 
@@ -157,7 +157,7 @@ gate-open r f z l e g a =
     let w : bitOr (getD r (f .dst) 0) (getD r (f .src) 0) ≡ getD r (f .dst) 0 = sym (getD-set-same r (f .dst) _ 0 l) ∙ ap (λ (s : List ℕ). getD s (f .dst) 0) q in
     subst (λ (m : ℕ). has z m ≡ true) w (has-or z _ _ ∙ or-right (has z (getD r (f .dst) 0)) _ a)
 
-module _ (r : List ℕ) (x y : ℕ) (s : Still r (rules x y)) where
+module _ (r : List ℕ) (x y : ℕ) (s : AddsNothing r (rules x y)) where
   still-read : (b : Right) → feed r (viaRead b x y) ≡ r
   unfolding rules
   still-read rd = s .0
@@ -195,14 +195,14 @@ pub record Base (h : Holding) (r : List ℕ) : Type 0 where
 pub base-kept : {h : Holding} {r s : List ℕ} → Base h r → Kept r s → Base h s
 base-kept p k = record { held = λ b x y m n e. k .bits _ y (p .held b x y m n e); own = λ b x m. k .bits _ x (p .own b x m) }
 
-module _ (h : Holding) (low : Low h) (r : List ℕ) (long : length r ≡ 256) (base : Base h r) (closed : (i : ℕ) → i < 4096 → Still r (rules (i / 64) (i % 64))) where
-  at : (x y : ℕ) → x < 64 → y < 64 → Still r (rules x y)
+module _ (h : Holding) (low : Low h) (r : List ℕ) (long : length r ≡ 256) (base : Base h r) (closed : (i : ℕ) → i < 4096 → AddsNothing r (rules (i / 64) (i % 64))) where
+  at : (x y : ℕ) → x < 64 → y < 64 → AddsNothing r (rules x y)
   at x y hx hy =
       let p : (x * 64 + y) / 64 ≡ x = omega arith in
       let q : (x * 64 + y) % 64 ≡ y = omega arith in
-      subst (λ (u : ℕ). Still r (rules u y)) p (subst (λ (v : ℕ). Still r (rules ((x * 64 + y) / 64) v)) q (closed (x * 64 + y) (omega arith)))
+      subst (λ (u : ℕ). AddsNothing r (rules u y)) p (subst (λ (v : ℕ). AddsNothing r (rules ((x * 64 + y) / 64) v)) q (closed (x * 64 + y) (omega arith)))
 
-  still-at : {b : Right} (x y : ℕ) → Can h b x y → Still r (rules x y)
+  still-at : {b : Right} (x y : ℕ) → Can h b x y → AddsNothing r (rules x y)
   still-at x y c = at x y (low x (means h c .from)) (low y (means h c .over))
 
   pub complete : {b : Right} {x y : ℕ} → Can h b x y → has y (wordAt r b x) ≡ true

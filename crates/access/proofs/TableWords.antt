@@ -6,26 +6,26 @@ use mathlib.Core.List.{List}
 use Prim.Native.Nat.{ℕ, _+_, _*_, _/_, _%_, _^_, _<_}
 use native.Mathlib.Omega.{arith}
 use lib.Dec.{ltb, eqb}
-use lib.ListN.{getD, replicate}
+use lib.ListN.{replicate}
 use borrow.Author.Tests.{ltb-true, lt-ltb, eqb-true, eq-eqb, not-true}
-use Rattle.mask.specs.Sets.{has, bits}
-use Rattle.mask.proofs.Tests.{byCases, and-true, and-intro}
+use Rattle.mask.specs.Sets.{has}
+use Rattle.mask.proofs.Tests.{and-true, and-intro}
 use Rattle.mask.proofs.Below.{any-intro, any-elim}
 use Rattle.mask.proofs.Bits.{has-bits, bits-lt, has-zero}
 use Rattle.table.specs.declared.Record.{Record}
 use Rattle.table.specs.declared.Table.{Table}
 use Rattle.table.specs.Lists.{tabulate}
-use Rattle.table.specs.Cells.{slotAt, bornAt, isBorn, unbornRecord}
+use Rattle.table.specs.Cells.{slotOf, slotAt, bornAt}
 use Rattle.table.specs.Soundness.{sound}
-use Rattle.access.specs.declared.Access.{Access}
 use Rattle.access.specs.declared.AccessReply.the-variants.{Done, TableUnsound}
-use Rattle.access.specs.Relation.{Right, bitAt, Holding, Can, holds, takesPart, holdsIn, tableHolding}
+use Rattle.access.specs.Relation.{Right, bitAt, holds, takesPart, holdsIn, tableHolding}
 use Rattle.access.specs.Closure.{rowOf}
 use Rattle.access.specs.Answers.{bornOutside, rightAt, accessOf}
-use Rattle.access.specs.Words.{wordAt, slotOf, Grounded, Begun, Saturated}
+use Rattle.access.specs.Helpers.{wordAt, ownMarks, slotMarks, Saturated}
 use Rattle.access.proofs.Exact.{table-low}
 use Rattle.access.proofs.Saturation.{Base, base-kept, exact-words}
 use Rattle.access.proofs.Marks.{has-low}
+use Rattle.access.proofs.StartWords.{Grounded, Begun, begun}
 
 -- born numbers outside a set -------------------------------------------------------
 pub outside-lt : (records : List Record) (set : ℕ) → bornOutside records set < 2 ^ 64
@@ -61,7 +61,7 @@ held-slot t b x y e hx f = any-elim 8 _ e (λ j hj q.
     f (x * 8 + j) (omega arith) (omega arith) (eqb-true (slotAt t x j .target) y (p .0)) (p .1))
 
 -- the table's words --------------------------------------------------------------------
-module _ (t : Table) (s r : List ℕ) (begun : Begun (t .slots) (bornOutside (t .records) 0) (bornOutside (t .records) 0) s) (k : Saturated s r) where
+module _ (t : Table) (s r : List ℕ) (start : Begun (t .slots) (bornOutside (t .records) 0) (bornOutside (t .records) 0) s) (k : Saturated s r) where
   abbrev N : ℕ
   N = bornOutside (t .records) 0
 
@@ -73,24 +73,26 @@ module _ (t : Table) (s r : List ℕ) (begun : Begun (t .slots) (bornOutside (t 
 
   based : Base (tableHolding t) s
   based = record {
-    own = λ b x e. begun .own b x (table-low t x e) (outside-intro t 0 x e (has-zero x));
+    own = λ b x e. start .own b x (table-low t x e) (outside-intro t 0 x e (has-zero x));
     held = λ b x y u v e. held-slot t b x y e (table-low t x u) (λ i h q w f.
         subst (λ (m : ℕ). has y (wordAt s b m) ≡ true) q (subst (λ (m : ℕ). has m (wordAt s b (i / 8)) ≡ true) w
-        (begun .held b i h (subst⁻¹ (λ (m : ℕ). has m N ≡ true) q (outside-intro t 0 x u (has-zero x)))
+        (start .held b i h (subst⁻¹ (λ (m : ℕ). has m N ≡ true) q (outside-intro t 0 x u (has-zero x)))
         (subst⁻¹ (λ (m : ℕ). has m N ≡ true) w (outside-intro t 0 y v (has-zero y))) f)));
   }
 
   table-words : r ≡ tabulate 256 (λ i. rowOf (tableHolding t) (rightAt (i / 64)) (i % 64))
-  table-words = exact-words (tableHolding t) (table-low t) r (k .kept .long ∙ begun .full .long) (base-kept based (k .kept)) (k .closed)
-      (k .derived (tableHolding t) (begun .derived (tableHolding t) grounded)) (k .kept .fits (begun .full .fits))
+  table-words = exact-words (tableHolding t) (table-low t) r (k .kept .long ∙ start .full .long) (base-kept based (k .kept)) (k .closed)
+      (k .derived (tableHolding t) (start .derived (tableHolding t) grounded)) (k .kept .fits (start .full .fits))
 
 -- the two ways out of the call --------------------------------------------------------------
-pub access-done : (t : Table) (b : Bool) (n : ℕ) (s r : List ℕ) → b ≡ sound t → b ≡ true → n ≡ bornOutside (t .records) 0 → Begun (t .slots) n n s → Saturated s r
-    → record { reply = Done; rows = r } ≡ accessOf t
+pub access-done : (t : Table) (b : Bool) (n : ℕ) (s r : List ℕ) → b ≡ sound t → b ≡ true → n ≡ bornOutside (t .records) 0
+    → s ≡ slotMarks (t .slots) n (ownMarks n 64) 512 → Saturated s r → record { reply = Done; rows = r } ≡ accessOf t
 unfolding accessOf
-access-done t b n s r p q e begun k =
-    let z = table-words t s r (subst (λ (m : ℕ). Begun (t .slots) m m s) e begun) k in
-    rw (sym p ∙ q, accessOf) (λ i. record { reply = Done; rows = z i })
+access-done t b n s r p q e z k =
+    let N = bornOutside (t .records) 0 in
+    let w : s ≡ slotMarks (t .slots) N (ownMarks N 64) 512 = cc in
+    let rows = table-words t s r (begun (t .slots) N N s (outside-lt (t .records) 0) w) k in
+    rw (sym p ∙ q, accessOf) (λ i. record { reply = Done; rows = rows i })
 
 pub access-refused : (t : Table) (b : Bool) → b ≡ sound t → b ≡ false → record { reply = TableUnsound; rows = replicate 256 0 } ≡ accessOf t
 unfolding accessOf

@@ -2,4 +2,4 @@ pub mod Relation
 pub mod Closure
 pub mod Exactness
 pub mod Answers
-pub mod Words
+pub mod Helpers

@@ -4,7 +4,7 @@ ghost use mathlib.Core.Path.{_≡_};
 ghost use mathlib.Core.Bool.{true, false};
 ghost use Prim.Native.Nat.{_+_, _*_, _<_};
 ghost use lib.ListN.{length};
-ghost use Rattle.access.specs.Words.{Full, feed, feedAll, shares, rules, heldOver, rowPass, passOf, Saturated};
+ghost use Rattle.access.specs.Helpers.{Full, feed, feedAll, shares, rules, heldOver, rowPass, passOf, Saturated};
 
 // Where x has the right g over y, word (s, v) is joined into word (d, u).
 fn join_word(
@@ -56,7 +56,7 @@ fn held_over(r: &[u64; 256], x: usize) -> u64
     r[x] | r[64 + x] | r[128 + x] | r[192 + x]
 }
 
-// The same, where x has some right over y: at any other pair every rule is shut.
+// The rules at the pair x, y, tried only where x has some right over y: at any other pair every rule is shut.
 fn visit(r: &mut [u64; 256], x: usize, y: usize)
     requires { ⌜ (x < 64) × (y < 64) ⌝ }
     ensures { λ z. ⌜ now (r .exit) ≡ feedAll (now (r .entry)) (rules x y) ⌝ }

@@ -4,8 +4,7 @@ use table::Record;
 ghost use mathlib.Core.Path.{_≡_};
 ghost use mathlib.Core.Bool.{true};
 ghost use Prim.Native.Nat.{_<_, _≤_};
-ghost use lib.ListN.{length};
-ghost use Rattle.access.specs.Words.{markTo, markIf, Begun, Entered};
+ghost use Rattle.access.specs.Helpers.{markTo, markIf, ownMarks, slotMarks, entryMarks};
 ghost use Rattle.access.specs.Answers.{bornOutside};
 
 // The born numbers outside a set.
@@ -49,7 +48,7 @@ fn mark_if(r: &mut [u64; 256], on: bool, x: usize, y: usize, rights: u8)
 
 // Each of `nodes` has all four rights over itself, and each slot between numbers of `among` is held.
 pub fn held_words(slots: [Capability; 512], nodes: u64, among: u64) -> [u64; 256]
-    ensures { λ r. ⌜ Begun slots nodes among r ⌝ }
+    ensures { λ r. ⌜ r ≡ slotMarks slots among (ownMarks nodes 64) 512 ⌝ }
 {
     let mut r = [0u64; 256];
     let mut i: usize = 0;
@@ -77,8 +76,8 @@ pub fn with_entries(
     among: u64,
     x: usize,
 ) -> [u64; 256]
-    requires { ⌜ (n ≤ 8) × (x < 64) × (length start ≡ 256) ⌝ }
-    ensures { λ r. ⌜ Entered entries among x start r n ⌝ }
+    requires { ⌜ (n ≤ 8) × (x < 64) ⌝ }
+    ensures { λ r. ⌜ r ≡ entryMarks entries among x start n ⌝ }
 {
     let mut r = start;
     let mut i: usize = 0;

@@ -1,13 +1,13 @@
 -- The bound read off the saturated words: for a non-member, "influenced by the stand-in" is "has wk over the stand-in", so the
 -- bound is the column of the stand-in in the words of wk. Assumes nothing.
 use mathlib.Core.Path.{_≡_, refl, sym, _∙_, ap, subst, subst⁻¹}
-use mathlib.Core.Bool.{Bool, true, false, not, _&&_, _||_}
+use mathlib.Core.Bool.{Bool, true, false, not, _&&_}
 use mathlib.Core.List.{List}
-use Prim.Native.Nat.{ℕ, zero, suc, _+_, _-_, _*_, _/_, _^_, _≤_, _<_}
+use Prim.Native.Nat.{ℕ, zero, suc, _+_, _-_, _/_, _≤_, _<_}
 use native.Mathlib.Omega.{arith}
 use native.Mathlib.Numerals.{add-one}
 use lib.Dec.{ltb, eqb}
-use lib.ListN.{length, getD}
+use lib.ListN.{length}
 use borrow.Author.Tests.{lt-ltb, eqb-true, eq-eqb, not-true}
 use Rattle.mask.specs.Sets.{has, bits, including}
 use Rattle.mask.proofs.Tests.{byCases, clash, and-true, and-intro, or-cases, or-left, or-right, bool-ext}
@@ -15,20 +15,20 @@ use Rattle.mask.proofs.Below.{any-intro, any-elim}
 use Rattle.mask.proofs.Bits.{has-bits, bits-lt, bits-ext, has-including}
 use Rattle.table.specs.declared.Capability.{Capability}
 use Rattle.table.specs.declared.Table.{Table}
-use Rattle.table.specs.Cells.{emptySlot}
+use Rattle.table.specs.Cells.{slotOf, emptySlot}
 use Rattle.table.proofs.Lists.{length-tabulate, getD-tabulate}
-use Rattle.access.specs.Relation.{Right, wk, bitAt, Holding, Can, holds, Influences, by-wr, by-tx, by-rd, by-wk, Influenced, first, more, takesPart, holdsIn}
-use Rattle.access.specs.Closure.{linkBack, link}
+use Rattle.access.specs.Relation.{Right, wk, bitAt, Holding, Can, holds, Influences, by-wr, by-tx, by-rd, by-wk, Influenced, first, more, holdsIn}
+use Rattle.access.specs.Closure.{linkBack}
 use Rattle.access.specs.Answers.{bornOutside}
-use Rattle.access.specs.Words.{wordAt, slotOf, Derived, Grounded, Begun, Entered, Saturated}
+use Rattle.access.specs.Helpers.{wordAt, Derived, Saturated, ownMarks, slotMarks, entryMarks}
 use Rattle.access.proofs.Reach.{turn}
-use Rattle.access.proofs.Exact.{Means, means, links-can, influenced-links}
+use Rattle.access.proofs.Exact.{means, links-can, influenced-links}
 use Rattle.access.proofs.Saturation.{Base, base-kept, complete}
-use Rattle.access.proofs.Marks.{has-low}
+use Rattle.access.proofs.StartWords.{Grounded, Begun, begun, Entered, entered}
 use Rattle.access.proofs.TableWords.{outside-lt, outside-facts, outside-intro, slot-held, held-slot}
 use Rattle.confinement.specs.declared.EntryList.{EntryList}
 use Rattle.confinement.specs.StandIn.{entriesOf, entryAt, listed, lowestFrom, standIn, testNode, testHeld, testHolding, boundOf}
-use Rattle.confinement.specs.Parts.{readOff}
+use Rattle.confinement.specs.Helpers.{readOff}
 use Rattle.confinement.proofs.Bound.{node-low, bound-lt, bound-only, bound-all}
 
 -- the lowest member, found by a loop ------------------------------------------------
@@ -200,12 +200,13 @@ module _ (t : Table) (members : ℕ) (l : EntryList) (low : standIn members < 64
 -- what the code's calls come to
 pub bound-answer : (t : Table) (members x f n : ℕ) (l : EntryList) (s q r : List ℕ) (b : ℕ) → standIn members < 64
     → x ≡ standIn members → f ≡ bornOutside (t .records) members → n ≡ including x f
-    → Begun (t .slots) n f s → Entered (l .entries) f x s q (l .count) → Saturated q r → b ≡ readOff r members x → b ≡ boundOf t members (entriesOf l)
-bound-answer t members x f n l s q r b low ex ef en p m k eb =
+    → s ≡ slotMarks (t .slots) f (ownMarks n 64) 512 → q ≡ entryMarks (l .entries) f x s (l .count) → Saturated q r → b ≡ readOff r members x
+    → b ≡ boundOf t members (entriesOf l)
+bound-answer t members x f n l s q r b low ex ef en es eq k eb =
     let F = bornOutside (t .records) members in
     let X = standIn members in
-    let p1 = subst (λ (w : ℕ). Begun (t .slots) w f s) (en ∙ ap (λ (w : ℕ). including w f) ex ∙ ap (including X) ef) p in
-    let p2 = subst (λ (w : ℕ). Begun (t .slots) (including X F) w s) ef p1 in
-    let m1 = subst (λ (w : ℕ). Entered (l .entries) f w s q (l .count)) ex m in
-    let m2 = subst (λ (w : ℕ). Entered (l .entries) w X s q (l .count)) ef m1 in
-    eb ∙ ap (readOff r members) ex ∙ read-bound t members l low s q p2 m2 r k
+    let fs : s ≡ slotMarks (t .slots) F (ownMarks (including X F) 64) 512 = cc in
+    let fq : q ≡ entryMarks (l .entries) F X s (l .count) = cc in
+    let high = outside-lt (t .records) members in
+    let p = begun (t .slots) (including X F) F s high fs in
+    eb ∙ ap (readOff r members) ex ∙ read-bound t members l low s q p (entered (l .entries) F X s q (l .count) high low (p .full .long) fq) r k

@@ -1,13 +1,13 @@
 -- What the code's loops find is what rows 10 to 13 say: a law for each way out of a loop. Assumes nothing.
-use mathlib.Core.Path.{_≡_, refl, sym, _∙_, ap, ap₂, subst}
+use mathlib.Core.Path.{_≡_, refl, sym, _∙_, ap, ap₂}
 use mathlib.Core.Bool.{Bool, true, false, not, _&&_, _||_}
 use mathlib.Core.List.{List}
-use Prim.Native.Nat.{ℕ, suc, _+_, _*_, _/_, _%_, _^_, _≤_, _<_}
+use Prim.Native.Nat.{ℕ, zero, suc, _+_, _*_, _/_, _%_, _^_, _≤_, _<_}
 use native.Mathlib.Omega.{arith}
 use native.Mathlib.Numerals.{add-one}
 use lib.Dec.{ltb, eqb}
 use lib.ListN.{length, getD}
-use borrow.Author.Tests.{ltb-false, lt-ltb, le-ltb, not-true, not-false}
+use borrow.Author.Tests.{ltb-false, lt-ltb, le-ltb, eq-eqb, ne-eqb, not-true}
 use Rattle.mask.specs.Sets.{has, allBelow, anyBelow, unionOf}
 use Rattle.mask.proofs.Tests.{byCases, clash, bool-ext, and-true, and-intro, or-none, or-right, or-false}
 use Rattle.mask.proofs.Below.{all-at, all-intro, any-intro, any-elim, any-ext, any-last}
@@ -23,7 +23,7 @@ use Rattle.access.proofs.TableWords.{outside-facts, outside-intro}
 use Rattle.confinement.specs.declared.EntryList.{EntryList}
 use Rattle.confinement.specs.StandIn.{entriesOf, entryAt, listed}
 use Rattle.confinement.specs.Refusals.{badMembers, badEntry, badList, rightListed, allListed, badHeld, memberHeld}
-use Rattle.confinement.specs.Parts.{entryBad, listBad, slotUnlisted, slotNamesMember}
+use Rattle.confinement.specs.Helpers.{entryRefused, listRefused, listedTo, listedRights, slotUnlisted, slotNamesMember}
 
 -- a search that found, and one that did not --------------------------------------------
 found : (n : ℕ) (p : ℕ → Bool) (i : ℕ) → i < n → p i ≡ true → true ≡ anyBelow n p
@@ -54,19 +54,19 @@ entries-at : (l : EntryList) (k : ℕ) → k < l .count → entryAt (entriesOf l
 unfolding entriesOf
 entries-at l k h = getD-tabulate (l .count) _ k emptySlot h
 
-pub list-long : (outside : ℕ) (l : EntryList) → 8 < l .count → true ≡ listBad outside (entriesOf l)
-unfolding listBad
-list-long outside l h = sym (ap (λ (b : Bool). b || anyBelow (length (entriesOf l)) (λ k. entryBad outside (entryAt (entriesOf l) k))) (lt-ltb 8 (length (entriesOf l)) (omega (arith, entries-length l))))
+pub list-long : (outside : ℕ) (l : EntryList) → 8 < l .count → true ≡ listRefused outside (entriesOf l)
+unfolding listRefused
+list-long outside l h = sym (ap (λ (b : Bool). b || anyBelow (length (entriesOf l)) (λ k. entryRefused outside (entryAt (entriesOf l) k))) (lt-ltb 8 (length (entriesOf l)) (omega (arith, entries-length l))))
 
-pub list-entry : (outside : ℕ) (l : EntryList) (k : ℕ) (b : Bool) → k < l .count → b ≡ entryBad outside (getD (l .entries) k emptySlot) → b ≡ true → true ≡ listBad outside (entriesOf l)
-unfolding listBad
+pub list-entry : (outside : ℕ) (l : EntryList) (k : ℕ) (b : Bool) → k < l .count → b ≡ entryRefused outside (getD (l .entries) k emptySlot) → b ≡ true → true ≡ listRefused outside (entriesOf l)
+unfolding listRefused
 list-entry outside l k b h e q = sym (or-right (ltb 8 (length (entriesOf l))) _
-    (any-intro (length (entriesOf l)) _ k (omega (arith, entries-length l)) (ap (entryBad outside) (entries-at l k h) ∙ sym e ∙ q)))
+    (any-intro (length (entriesOf l)) _ k (omega (arith, entries-length l)) (ap (entryRefused outside) (entries-at l k h) ∙ sym e ∙ q)))
 
-pub list-fine : (outside : ℕ) (l : EntryList) (n : ℕ) → l .count ≤ 8 → l .count ≤ n → ((k : ℕ) → k < n → entryBad outside (getD (l .entries) k emptySlot) ≡ false) → false ≡ listBad outside (entriesOf l)
-unfolding listBad
+pub list-fine : (outside : ℕ) (l : EntryList) (n : ℕ) → l .count ≤ 8 → l .count ≤ n → ((k : ℕ) → k < n → entryRefused outside (getD (l .entries) k emptySlot) ≡ false) → false ≡ listRefused outside (entriesOf l)
+unfolding listRefused
 list-fine outside l n h m f = sym (ap₂ (λ (x y : Bool). x || y) (le-ltb 8 (length (entriesOf l)) (omega (arith, entries-length l)))
-    (missing (length (entriesOf l)) _ (λ k g. ap (entryBad outside) (entries-at l k (omega (arith, entries-length l))) ∙ f k (omega (arith, entries-length l)))))
+    (missing (length (entriesOf l)) _ (λ k g. ap (entryRefused outside) (entries-at l k (omega (arith, entries-length l))) ∙ f k (omega (arith, entries-length l)))))
 
 regroup : (a x y : Bool) → (a || not (x && not y)) ≡ ((a || not x) || y)
 regroup true x y = refl
@@ -74,7 +74,7 @@ regroup false true true = refl
 regroup false true false = refl
 regroup false false y = refl
 
-entry-same : (t : Table) (members : ℕ) (e : Capability) → entryBad (bornOutside (t .records) members) e ≡ badEntry t members e
+entry-same : (t : Table) (members : ℕ) (e : Capability) → entryRefused (bornOutside (t .records) members) e ≡ badEntry t members e
 unfolding badEntry
 entry-same t members e =
     ap (λ (b : Bool). (eqb (e .rights) 0 || ltb 15 (e .rights)) || not b)
@@ -83,50 +83,56 @@ entry-same t members e =
     (λ h. let p = and-true (takesPart t (e .target)) _ h in outside-intro t members (e .target) (p .0) (not-true _ (p .1))))
     ∙ regroup (eqb (e .rights) 0 || ltb 15 (e .rights)) (takesPart t (e .target)) (has (e .target) members)
 
-pub list-same : (t : Table) (members : ℕ) (list : List Capability) → listBad (bornOutside (t .records) members) list ≡ badList t members list
-unfolding listBad badList
+pub list-same : (t : Table) (members : ℕ) (list : List Capability) → listRefused (bornOutside (t .records) members) list ≡ badList t members list
+unfolding listRefused badList
 list-same t members list = ap (λ (b : Bool). ltb 8 (length list) || b) (any-ext (length list) _ _ (λ k h. entry-same t members (entryAt list k)))
 
-pub list-short : (outside : ℕ) (l : EntryList) → listBad outside (entriesOf l) ≡ false → l .count ≤ 8
-unfolding listBad
+pub list-short : (outside : ℕ) (l : EntryList) → listRefused outside (entriesOf l) ≡ false → l .count ≤ 8
+unfolding listRefused
 list-short outside l e = omega (arith, entries-length l, ltb-false 8 (length (entriesOf l)) (or-none _ _ e .0))
 
 -- the rights listed for a target ----------------------------------------------------------
-abbrev matching : EntryList → Right → ℕ → ℕ → Bool
-matching l b y i = eqb (getD (l .entries) i emptySlot .target) y && has (bitAt b) (getD (l .entries) i emptySlot .rights)
-
--- among the first k entries
-unfoldable pub listedTo : EntryList → ℕ → Right → ℕ → Bool
-listedTo l k b y = anyBelow k (λ i. eqb (getD (l .entries) i emptySlot .target) y && has (bitAt b) (getD (l .entries) i emptySlot .rights))
-
-pub listed-none : (l : EntryList) (b : Right) (y : ℕ) → has (bitAt b) 0 ≡ listedTo l 0 b y
+pub listed-none : (l : EntryList) (y : ℕ) → 0 ≡ listedTo (entriesOf l) y 0
 unfolding listedTo
-listed-none l b y = has-zero (bitAt b) ∙ sym (missing 0 (matching l b y) (λ k h. absurd (omega arith)))
+listed-none l y = refl
 
-listed-last : (l : EntryList) (k : ℕ) (b : Right) (y : ℕ) → listedTo l (k + 1) b y ≡ (listedTo l k b y || matching l b y k)
+pub listed-on : (l : EntryList) (y k m n : ℕ) → k < l .count → m ≡ listedTo (entriesOf l) y k → getD (l .entries) k emptySlot .target ≡ y
+    → n ≡ unionOf m (getD (l .entries) k emptySlot .rights) → n ≡ listedTo (entriesOf l) y (k + 1)
 unfolding listedTo
-listed-last l k b y = ap (λ (i : ℕ). anyBelow i (matching l b y)) (add-one k) ∙ any-last k (matching l b y)
+listed-on l y k m n h p e q =
+    let c = sym (entries-at l k h) in
+    rw add-one (rw (eq-eqb (entryAt (entriesOf l) k .target) y (ap (λ (x : Capability). x .target) (sym c) ∙ e), listedTo)
+    (q ∙ ap₂ (λ (a : ℕ) (x : Capability). unionOf a (x .rights)) p c))
 
-pub listed-on : (l : EntryList) (k m n y : ℕ) → ((b : Right) → has (bitAt b) m ≡ listedTo l k b y) → eqb (getD (l .entries) k emptySlot .target) y ≡ true → n ≡ unionOf m (getD (l .entries) k emptySlot .rights)
-    → (b : Right) → has (bitAt b) n ≡ listedTo l (k + 1) b y
-listed-on l k m n y f e q b =
-    ap (has (bitAt b)) q ∙ has-union (bitAt b) m _ (omega (arith, bit-high b))
-    ∙ ap₂ (λ (x z : Bool). x || z) (f b) (sym (ap (λ (x : Bool). x && has (bitAt b) (getD (l .entries) k emptySlot .rights)) e))
-    ∙ sym (listed-last l k b y)
+pub listed-off : (l : EntryList) (y k m n : ℕ) → k < l .count → m ≡ listedTo (entriesOf l) y k → (getD (l .entries) k emptySlot .target ≡ y → ⊥)
+    → n ≡ m → n ≡ listedTo (entriesOf l) y (k + 1)
+unfolding listedTo
+listed-off l y k m n h p e q =
+    rw add-one (rw (ne-eqb (entryAt (entriesOf l) k .target) y (λ z. e (ap (λ (x : Capability). x .target) (sym (entries-at l k h)) ∙ z)), listedTo) (q ∙ p))
 
-pub listed-off : (l : EntryList) (k m n y : ℕ) → ((b : Right) → has (bitAt b) m ≡ listedTo l k b y) → eqb (getD (l .entries) k emptySlot .target) y ≡ false → n ≡ m
-    → (b : Right) → has (bitAt b) n ≡ listedTo l (k + 1) b y
-listed-off l k m n y f e q b =
-    ap (has (bitAt b)) q ∙ f b ∙ sym (or-false (listedTo l k b y))
-    ∙ ap (λ (x : Bool). listedTo l k b y || x) (sym (ap (λ (x : Bool). x && has (bitAt b) (getD (l .entries) k emptySlot .rights)) e))
-    ∙ sym (listed-last l k b y)
+pub listed-all : (l : EntryList) (y k : ℕ) → k ≤ l .count → l .count ≤ k → listedTo (entriesOf l) y k ≡ listedRights (entriesOf l) y
+unfolding listedRights
+listed-all l y k h g = let e : k ≡ length (entriesOf l) = omega (arith, entries-length l) in ap (listedTo (entriesOf l) y) e
 
-pub listed-all : (l : EntryList) (k : ℕ) (b : Right) (y : ℕ) → k ≤ l .count → l .count ≤ k → listedTo l k b y ≡ listed (entriesOf l) b y
-unfolding listedTo listed
-listed-all l k b y h g =
-    let e : k ≡ length (entriesOf l) = omega (arith, entries-length l) in
-    ap (λ (i : ℕ). anyBelow i (matching l b y)) e
-    ∙ any-ext (length (entriesOf l)) _ _ (λ i q. ap (λ (c : Capability). eqb (c .target) y && has (bitAt b) (c .rights)) (sym (entries-at l i (omega (arith, entries-length l)))))
+-- the entry is for y and has the right
+abbrev matching : List Capability → Right → ℕ → ℕ → Bool
+matching list b y k = eqb (entryAt list k .target) y && has (bitAt b) (entryAt list k .rights)
+
+listed-last : (list : List Capability) (b : Right) (y n : ℕ) → has (bitAt b) (listedTo list y (suc n)) ≡ (has (bitAt b) (listedTo list y n) || matching list b y n)
+unfolding listedTo
+listed-last list b y n = byCases (eqb (entryAt list n .target) y)
+    (λ e. rw (e, listedTo) (has-union (bitAt b) _ _ (omega (arith, bit-high b))))
+    (λ e. rw (e, listedTo) (sym (or-false _)))
+
+listed-bits : (list : List Capability) (b : Right) (y n : ℕ) → has (bitAt b) (listedTo list y n) ≡ anyBelow n (matching list b y)
+unfolding listedTo anyBelow
+listed-bits list b y zero = has-zero (bitAt b)
+listed-bits list b y (suc n) = listed-last list b y n ∙ ap (λ (x : Bool). x || matching list b y n) (listed-bits list b y n) ∙ sym (any-last n _)
+
+-- the bits of the union are what is listed
+pub listed-rights : (list : List Capability) (b : Right) (y : ℕ) → has (bitAt b) (listedRights list y) ≡ listed list b y
+unfolding listedRights listed
+listed-rights list b y = listed-bits list b y (length list)
 
 -- rows 12 and 13, slot by slot ----------------------------------------------------------------
 module _ (t : Table) (a : ℕ → Bool) (b : Capability → Bool) where
@@ -147,12 +153,13 @@ module _ (t : Table) (a : ℕ → Bool) (b : Capability → Bool) where
       (λ e. ap (λ (x : Bool). x && anyBelow 8 (λ j. b (slotAt t n j))) e)))
 
 -- the four rights of a capability, each absent or listed
-pub all-covered : (l : EntryList) (c : Capability) (found : ℕ) (p q u v : Bool) → ((b : Right) → has (bitAt b) found ≡ listed (entriesOf l) b (c .target))
+pub all-covered : (list : List Capability) (c : Capability) (found : ℕ) (p q u v : Bool) → found ≡ listedRights list (c .target)
     → p ≡ (not (has 0 (c .rights)) || has 0 found) → q ≡ (not (has 1 (c .rights)) || has 1 found) → u ≡ (not (has 2 (c .rights)) || has 2 found) → v ≡ (not (has 3 (c .rights)) || has 3 found)
-    → (p && q && u && v) ≡ allListed (entriesOf l) c
+    → (p && q && u && v) ≡ allListed list c
 unfolding allListed
-all-covered l c found p q u v f ep eq eu ev =
-    let one : (b : Right) → (not (has (bitAt b) (c .rights)) || has (bitAt b) found) ≡ rightListed (entriesOf l) c b = λ b. ap (λ (x : Bool). not (has (bitAt b) (c .rights)) || x) (f b) in
+all-covered list c found p q u v f ep eq eu ev =
+    let bit : (b : Right) → has (bitAt b) found ≡ listed list b (c .target) = λ b. ap (has (bitAt b)) f ∙ listed-rights list b (c .target) in
+    let one : (b : Right) → (not (has (bitAt b) (c .rights)) || has (bitAt b) found) ≡ rightListed list c b = λ b. ap (λ (x : Bool). not (has (bitAt b) (c .rights)) || x) (bit b) in
     ap₂ (λ (x y : Bool). x && y) (ap₂ (λ (x y : Bool). x && y) (ap₂ (λ (x y : Bool). x && y) (ep ∙ one rd) (eq ∙ one wr)) (eu ∙ one wk)) (ev ∙ one tx)
 
 -- row 12

@@ -1,6 +1,6 @@
 -- The six ways out of the test: what the checks found, as the verdict of the definition. Assumes nothing.
 use mathlib.Core.Path.{_≡_, refl, sym, _∙_, ap}
-use mathlib.Core.Bool.{Bool, true, false, not}
+use mathlib.Core.Bool.{Bool, true, false}
 use mathlib.Core.List.{List}
 use Prim.Native.Nat.{ℕ, _<_}
 use Rattle.table.specs.declared.Capability.{Capability}
@@ -9,11 +9,10 @@ use Rattle.table.specs.Soundness.{sound}
 use Rattle.access.specs.Answers.{bornOutside}
 use Rattle.confinement.specs.declared.Verdict.{Verdict}
 use Rattle.confinement.specs.declared.Verdict.the-variants.{Accepted, TableUnsound, MembersInvalid, ListInvalid, RightUnlisted, MemberHeld}
-use Rattle.confinement.specs.declared.Tested.{Tested}
 use Rattle.confinement.specs.StandIn.{standIn, boundOf}
-use Rattle.confinement.specs.Refusals.{refuse, badMembers, badList, badHeld, memberHeld, verdictOf}
+use Rattle.confinement.specs.Refusals.{badMembers, badList, badHeld, memberHeld, verdictOf}
 use Rattle.confinement.specs.Tests.{isAccepted, refusedTest, testOf}
-use Rattle.confinement.specs.Parts.{listBad}
+use Rattle.confinement.specs.Helpers.{listRefused}
 use Rattle.confinement.proofs.Scans.{list-same}
 use Rattle.confinement.proofs.TestFacts.{members-facts}
 
@@ -43,12 +42,12 @@ module _ (t : Table) (members : ℕ) (list : List Capability) where
       pub standing : b10 ≡ false → standIn members < 64
       standing e = members-facts t members list (sym s10 ∙ e) .0 .0
 
-      module _ (e10 : b10 ≡ false) (outside : ℕ) (o : outside ≡ bornOutside (t .records) members) (b11 : Bool) (s11 : b11 ≡ listBad outside list) where
+      module _ (e10 : b10 ≡ false) (outside : ℕ) (o : outside ≡ bornOutside (t .records) members) (b11 : Bool) (s11 : b11 ≡ listRefused outside list) where
         f10 : badMembers t members ≡ false
         f10 = sym s10 ∙ e10
 
         f11 : (x : Bool) → b11 ≡ x → badList t members list ≡ x
-        f11 x e = sym (list-same t members list) ∙ ap (λ (m : ℕ). listBad m list) (sym o) ∙ sym s11 ∙ e
+        f11 x e = sym (list-same t members list) ∙ ap (λ (m : ℕ). listRefused m list) (sym o) ∙ sym s11 ∙ e
 
         pub test-11 : b11 ≡ true → refusedTest ListInvalid ≡ testOf t members list
         unfolding verdictOf

@@ -3,4 +3,4 @@ pub mod Refusals
 pub mod Tests
 pub mod Agreement
 pub mod Exactness
-pub mod Parts
+pub mod Helpers

@@ -6,7 +6,7 @@ ghost use mathlib.Core.Path.{_≡_};
 ghost use Prim.Native.Nat.{_≤_, _<_};
 ghost use Rattle.access.specs.Answers.{bornOutside};
 ghost use Rattle.confinement.specs.StandIn.{entriesOf, standIn, boundOf};
-ghost use Rattle.confinement.specs.Parts.{readOff};
+ghost use Rattle.confinement.specs.Helpers.{readOff};
 
 // The lowest number of a set, 64 if it has none.
 pub fn lowest(set: u64) -> usize

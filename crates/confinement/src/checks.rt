@@ -6,10 +6,9 @@ ghost use mathlib.Core.Path.{_≡_};
 ghost use mathlib.Core.Bool.{Bool, not, _||_};
 ghost use Prim.Native.Nat.{_≤_, _<_};
 ghost use Rattle.mask.specs.Sets.{has};
-ghost use Rattle.access.specs.Relation.{Right, bitAt};
-ghost use Rattle.confinement.specs.StandIn.{entriesOf, listed};
+ghost use Rattle.confinement.specs.StandIn.{entriesOf};
 ghost use Rattle.confinement.specs.Refusals.{badMembers, allListed, badHeld, memberHeld};
-ghost use Rattle.confinement.specs.Parts.{entryBad, listBad, slotUnlisted, slotNamesMember};
+ghost use Rattle.confinement.specs.Helpers.{entryRefused, listRefused, listedRights, slotUnlisted, slotNamesMember};
 
 // Row 10: no member, or one that is not alive.
 pub fn members_bad(t: Table, members: u64) -> bool
@@ -27,14 +26,14 @@ pub fn members_bad(t: Table, members: u64) -> bool
 
 // Row 11 for one entry.
 pub fn entry_bad(outside: u64, e: Capability) -> bool
-    ensures { λ r. ⌜ r ≡ entryBad outside e ⌝ }
+    ensures { λ r. ⌜ r ≡ entryRefused outside e ⌝ }
 {
     (e.rights == 0) | (15 < e.rights) | !mask::has(outside, e.target)
 }
 
 // Row 11, by the set of born non-members.
 pub fn list_bad(outside: u64, l: EntryList) -> bool
-    ensures { λ r. ⌜ r ≡ listBad outside (entriesOf l) ⌝ }
+    ensures { λ r. ⌜ r ≡ listRefused outside (entriesOf l) ⌝ }
 {
     let count = l.count as usize;
     if 8 < count {
@@ -53,7 +52,7 @@ pub fn list_bad(outside: u64, l: EntryList) -> bool
 // The rights that the list has for a target: the union over its entries.
 pub fn listed_for(l: EntryList, target: u8) -> u64
     requires { ⌜ l .count ≤ 8 ⌝ }
-    ensures { λ r. ⌜ ((b : Right) → has (bitAt b) r ≡ listed (entriesOf l) b target) ⌝ }
+    ensures { λ r. ⌜ r ≡ listedRights (entriesOf l) target ⌝ }
 {
     let count = l.count as usize;
     let mut found: u64 = 0;

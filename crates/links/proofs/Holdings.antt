@@ -10,12 +10,12 @@ use Rattle.mask.specs.Sets.{has, anyBelow}
 use Rattle.mask.proofs.Tests.{bool-ext, and-true, and-intro, or-cases, or-left, or-right}
 use Rattle.mask.proofs.Below.{any-intro, any-elim}
 use Rattle.mask.proofs.Bits.{has-zero}
+use Rattle.table.specs.Cells.{slotOf}
 use Rattle.table.specs.declared.Capability.{Capability}
 use Rattle.table.specs.declared.Table.{Table}
 use Rattle.access.specs.Relation.{Right, Holding, takesPart, holdsIn, tableHolding}
 use Rattle.access.specs.Closure.{bothTakePart, holdsStrong, link}
 use Rattle.access.specs.Answers.{bornOutside}
-use Rattle.access.specs.Words.{slotOf}
 use Rattle.access.proofs.TableWords.{outside-facts, outside-intro, slot-held, held-slot}
 use Rattle.links.specs.Links.{linkWords, slotHeld, slotHolding, entryHeld, withHolder, capabilityLink, joined, entryLink}
 use Rattle.links.proofs.Edges.{words-same, links-are-edges}

@@ -8,9 +8,9 @@ use native.Mathlib.Omega.{arith}
 use lib.ListN.{replicate}
 use Rattle.mask.specs.Sets.{has, bits, anyBelow}
 use Rattle.mask.proofs.Tests.{and-true}
+use Rattle.table.specs.Cells.{slotOf}
 use Rattle.table.specs.declared.Capability.{Capability}
 use Rattle.table.specs.Lists.{tabulate}
-use Rattle.access.specs.Words.{slotOf}
 use Rattle.access.proofs.Marks.{has-low}
 use Rattle.links.specs.Links.{linkWords, wordEdge, slotHolding, joined, entryLink}
 use Rattle.links.specs.Helpers.{linkIf}

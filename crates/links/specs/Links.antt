@@ -8,10 +8,9 @@ use lib.ListN.{getD, set}
 use Rattle.mask.specs.Sets.{has, bits, anyBelow, including}
 use Rattle.table.specs.declared.Capability.{Capability}
 use Rattle.table.specs.Lists.{tabulate}
-use Rattle.table.specs.Cells.{hasRd, hasWr, hasWk, hasTx}
+use Rattle.table.specs.Cells.{slotOf, hasRd, hasWr, hasWk, hasTx}
 use Rattle.access.specs.Relation.{Right, bitAt, Holding}
 use Rattle.access.specs.Closure.{link}
-use Rattle.access.specs.Words.{slotOf}
 
 -- word x: the numbers one link from x
 unfoldable pub linkWords : Holding → List ℕ

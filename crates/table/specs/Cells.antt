@@ -3,6 +3,7 @@
 -- reads or puts a slot above 7 but after the check that refuses it.
 use mathlib.Core.Path.{_≡_}
 use mathlib.Core.Bool.{Bool, not, _&&_, _||_}
+use mathlib.Core.List.{List}
 use Prim.Native.Nat.{ℕ, _+_, _*_, _^_, _<_}
 use lib.Dec.{eqb}
 use lib.ListN.{length, getD, set, replicate}
@@ -28,6 +29,10 @@ recordAt t n = getD (t .records) n unbornRecord
 
 abbrev pub slotAt : Table → ℕ → ℕ → Capability
 slotAt t n j = getD (t .slots) (n * 8 + j) emptySlot
+
+-- the capability at a place of a list of them: of a table's slots, of a test's entries
+abbrev pub slotOf : List Capability → ℕ → Capability
+slotOf list k = getD list k emptySlot
 
 abbrev pub statusAt : Table → ℕ → ℕ
 statusAt t n = recordAt t n .status

@@ -2,7 +2,7 @@
 use mathlib.Core.Path.{_≡_, _∙_, ap}
 use Prim.Native.Nat.{_*_, _-_, _≤_}
 use native.Mathlib.Omega.{arith}
-use Rattle.access.specs.Words.{passOf}
+use Rattle.access.specs.Helpers.{passOf}
 use Rattle.access.proofs.Feeds.{pass-none, pass-row}
 use borrow.Author.Needs.{needs}
 use Rattle.access.proofs.rules.pass.Statement.{statement}

@@ -1,7 +1,7 @@
 -- `saturate` ends when a pass adds nothing; until then the sum of the words rises, and it is below 256 times 2 ^ 64. Assumes nothing.
 use Prim.Native.Nat.{_-_, _*_, _^_}
 use native.Mathlib.Omega.{arith}
-use Rattle.access.specs.Words.{Full}
+use Rattle.access.specs.Helpers.{Full}
 use Rattle.access.proofs.Feeds.{total, more-words, total-full}
 use Rattle.access.proofs.Saturation.{Grown, grown-none, grown-pass, saturated, full-kept}
 use borrow.Author.Needs.{needs}

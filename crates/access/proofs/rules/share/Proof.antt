@@ -1,5 +1,5 @@
 -- `share` is four feeds, one after the other. Assumes nothing.
-use Rattle.access.specs.Words.{shares}
+use Rattle.access.specs.Helpers.{shares}
 use Rattle.access.proofs.Feeds.{four-feeds}
 use borrow.Author.Needs.{needs}
 use Rattle.access.proofs.rules.share.Statement.{statement}

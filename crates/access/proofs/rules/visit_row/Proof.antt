@@ -3,7 +3,7 @@
 use mathlib.Core.Path.{_≡_, sym, _∙_, ap}
 use Prim.Native.Nat.{_-_, _≤_}
 use native.Mathlib.Omega.{arith}
-use Rattle.access.specs.Words.{rowPass}
+use Rattle.access.specs.Helpers.{rowPass}
 use Rattle.access.proofs.Feeds.{row-none, row-step, row-shut}
 use borrow.Author.Needs.{needs}
 use Rattle.access.proofs.rules.visit_row.Statement.{statement}

@@ -6,7 +6,7 @@ use native.Mathlib.Omega.{arith}
 use lib.Bits.{bitOr}
 use lib.ListN.{getD, set}
 use Rattle.mask.proofs.Words.{one-bit}
-use Rattle.access.specs.Words.{markTo}
+use Rattle.access.specs.Helpers.{markTo}
 use Rattle.access.proofs.Feeds.{bit-set, bit-clear}
 use Rattle.access.proofs.Marks.{mark-none, mark-on, mark-off}
 use borrow.Author.Needs.{needs}

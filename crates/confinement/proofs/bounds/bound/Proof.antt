@@ -1,6 +1,7 @@
 -- `bound` is the definition: the saturated words are read off at the stand-in. Assumes nothing.
 use native.Mathlib.Omega.{arith}
 use Rattle.access.proofs.Saturation.{full-kept}
+use Rattle.access.proofs.StartWords.{begun, entered}
 use Rattle.confinement.proofs.BoundWords.{bound-answer}
 use borrow.Author.Needs.{needs}
 use Rattle.confinement.proofs.bounds.bound.Statement.{statement}
@@ -25,7 +26,8 @@ with-entries-requires : tie.Need-with-entries-requires
 with-entries-requires c κs = search needs
 
 saturate-requires : tie.Need-saturate-requires
-saturate-requires c κs = full-kept (c .before .held-words .ensures .full) (c .with-entries .ensures .kept)
+saturate-requires c κs = let p = begun _ _ _ _ (omega arith) (c .before .held-words .ensures) in
+    full-kept (p .full) (entered _ _ _ _ _ _ (omega arith) (omega arith) (p .full .long) (c .with-entries .ensures) .kept)
 
 cast-read-off : tie.Need-cast-read-off
 cast-read-off c = search needs

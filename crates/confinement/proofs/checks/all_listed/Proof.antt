@@ -1,8 +1,4 @@
 -- `all_listed` tests the four rights of a capability against the listed ones. Assumes nothing.
-use mathlib.Core.Path.{_∙_, ap, ap₂}
-use mathlib.Core.Bool.{Bool, not, _&&_, _||_}
-use Rattle.access.specs.Relation.{rd, wr, wk, tx}
-use Rattle.confinement.specs.Refusals.{allListed}
 use Rattle.confinement.proofs.Scans.{all-covered}
 use borrow.Author.Needs.{needs}
 use Rattle.confinement.proofs.checks.all_listed.Statement.{statement}

@@ -6,14 +6,14 @@ use native.Mathlib.Omega.{arith}
 use borrow.Author.Count.{below-more}
 use lib.ListN.{getD}
 use Rattle.table.specs.Cells.{emptySlot}
-use Rattle.confinement.specs.Parts.{entryBad}
+use Rattle.confinement.specs.Helpers.{entryRefused}
 use Rattle.confinement.proofs.Scans.{list-long, list-entry, list-fine}
 use borrow.Author.Needs.{needs}
 use Rattle.confinement.proofs.checks.list_bad.Statement.{statement}
 use Rattle.confinement.proofs.checks.list_bad.Tie as tie
 
 abbrev Inv-loop : tie.InvT-loop
-Inv-loop outside l count k₀ k = (k ≤ l .count) × ((i : ℕ) → i < k → entryBad outside (getD (l .entries) i emptySlot) ≡ false)
+Inv-loop outside l count k₀ k = (k ≤ l .count) × ((i : ℕ) → i < k → entryRefused outside (getD (l .entries) i emptySlot) ≡ false)
 
 abbrev μ-loop : tie.MeasureT-loop
 μ-loop outside l count k₀ k = l .count - k

@@ -3,16 +3,15 @@ use mathlib.Core.Path.{_≡_, _∙_}
 use mathlib.Core.Logic.{⊎-elim}
 use Prim.Native.Nat.{_-_, _≤_}
 use native.Mathlib.Omega.{arith}
-use borrow.Author.Tests.{eq-eqb, ne-eqb}
-use Rattle.mask.specs.Sets.{has}
-use Rattle.access.specs.Relation.{Right, bitAt}
-use Rattle.confinement.proofs.Scans.{listedTo, listed-none, listed-on, listed-off, listed-all}
+use Rattle.confinement.specs.StandIn.{entriesOf}
+use Rattle.confinement.specs.Helpers.{listedTo}
+use Rattle.confinement.proofs.Scans.{listed-none, listed-on, listed-off, listed-all}
 use borrow.Author.Needs.{needs}
 use Rattle.confinement.proofs.checks.listed_for.Statement.{statement}
 use Rattle.confinement.proofs.checks.listed_for.Tie as tie
 
 abbrev Inv-loop : tie.InvT-loop
-Inv-loop target l count found₀ k₀ found k = (k ≤ l .count) × ((b : Right) → has (bitAt b) found ≡ listedTo l k b target)
+Inv-loop target l count found₀ k₀ found k = (k ≤ l .count) × (found ≡ listedTo (entriesOf l) target k)
 
 abbrev μ-loop : tie.MeasureT-loop
 μ-loop target l count found₀ k₀ found k = l .count - k
@@ -21,7 +20,7 @@ cast-count : tie.Need-cast-count Inv-loop μ-loop
 cast-count c = search needs
 
 loop-holds : tie.Need-loop-holds Inv-loop μ-loop
-loop-holds c = (omega arith, λ b. listed-none _ b _)
+loop-holds c = (omega arith, listed-none _ _)
 
 mul-e : tie.Need-mul-e Inv-loop μ-loop
 mul-e c = search needs
@@ -45,13 +44,13 @@ loop-again : tie.Need-loop-again Inv-loop μ-loop
 loop-again c = (
   omega arith,
   ⊎-elim
-      (λ w. listed-on _ _ _ _ _ (c .before .before .before .before .loop .inv .1) (eq-eqb _ _ (w .0 .taken)) (w .3 ∙ w .2 .ensures))
-      (λ w. listed-off _ _ _ _ _ (c .before .before .before .before .loop .inv .1) (ne-eqb _ _ (w .0 .left)) (w .1))
+      (λ w. listed-on _ _ _ _ _ (omega arith) (c .before .before .before .before .loop .inv .1) (w .0 .taken) (w .3 ∙ w .2 .ensures))
+      (λ w. listed-off _ _ _ _ _ (omega arith) (c .before .before .before .before .loop .inv .1) (w .0 .left) (w .1))
       (c .if1 .came),
 )
 
 returns : tie.Need-returns Inv-loop μ-loop
-returns c = λ b. c .before .loop .inv .1 b ∙ listed-all _ _ b _ (c .before .loop .inv .0) (c .loop-test .left)
+returns c = c .before .loop .inv .1 ∙ listed-all _ _ _ (c .before .loop .inv .0) (c .loop-test .left)
 
 pub listed-for-spec : {M : Type 1} → statement M
 listed-for-spec =

@@ -6,7 +6,7 @@ use native.Mathlib.Omega.{arith}
 use borrow.Author.Count.{below-more}
 use lib.ListN.{getD}
 use Rattle.table.specs.Cells.{emptySlot}
-use Rattle.confinement.specs.Parts.{slotNamesMember}
+use Rattle.confinement.specs.Helpers.{slotNamesMember}
 use Rattle.confinement.proofs.Scans.{member-found, member-missing}
 use borrow.Author.Needs.{needs}
 use Rattle.confinement.proofs.checks.member_held.Statement.{statement}

@@ -7,7 +7,7 @@ use borrow.Author.Count.{below-more}
 use lib.ListN.{getD}
 use Rattle.table.specs.Cells.{emptySlot}
 use Rattle.confinement.specs.StandIn.{entriesOf}
-use Rattle.confinement.specs.Parts.{slotUnlisted}
+use Rattle.confinement.specs.Helpers.{slotUnlisted}
 use Rattle.confinement.proofs.Scans.{unlisted-found, unlisted-missing}
 use borrow.Author.Needs.{needs}
 use Rattle.confinement.proofs.checks.right_unlisted.Statement.{statement}

@@ -1,15 +1,16 @@
 -- The relation as the code holds it: 256 words, of which the word at 64 times the right's place plus x has the numbers over which
 -- x has the right. Each rule of Relation.antt is a feed: where one word has y, another is joined into a third. What the code's
--- functions promise of such words is said here; that the saturated words are the closure is proofs/Saturation.antt.
+-- functions promise of such words is said here; what the words to start from have is proofs/StartWords.antt, and that the
+-- saturated words are the closure is proofs/Saturation.antt.
 use mathlib.Core.Path.{_≡_}
 use mathlib.Core.Bool.{Bool, true, false, _&&_}
 use mathlib.Core.List.{List, [], _∷_}
 use Prim.Native.Nat.{ℕ, zero, suc, _+_, _*_, _/_, _%_, _^_, _<_}
 use lib.Bits.{bitOr}
-use lib.ListN.{length, getD, set}
+use lib.ListN.{length, getD, set, replicate}
 use Rattle.mask.specs.Sets.{has}
 use Rattle.table.specs.declared.Capability.{Capability}
-use Rattle.table.specs.Cells.{emptySlot}
+use Rattle.table.specs.Cells.{slotOf, emptySlot}
 use Rattle.access.specs.Relation.{Right, rd, wr, wk, tx, bitAt, Holding, Can}
 
 abbrev pub place : Right → ℕ → ℕ
@@ -83,9 +84,9 @@ passOf r zero = r
 passOf r (suc k) = feedAll (passOf r k) (rules (k / 64) (k % 64))
 
 -- rules that add nothing
-abbrev pub Still : List ℕ → List Feed → Type 0
-Still r [] = Unit {0}
-Still r (f ∷ fs) = (feed r f ≡ r) × Still r fs
+abbrev pub AddsNothing : List ℕ → List Feed → Type 0
+AddsNothing r [] = Unit {0}
+AddsNothing r (f ∷ fs) = (feed r f ≡ r) × AddsNothing r fs
 
 -- what running the rules owes --------------------------------------------------------
 -- words of the same size that have whatever the first had
@@ -102,7 +103,7 @@ Derived h r = (b : Right) (x y : ℕ) → x < 64 → y < 64 → has y (wordAt r 
 pub record Saturated (s r : List ℕ) : Type 0 where
   pub kept : Kept s r
   pub derived : (h : Holding) → Derived h s → Derived h r
-  pub closed : (i : ℕ) → i < 4096 → Still r (rules (i / 64) (i % 64))
+  pub closed : (i : ℕ) → i < 4096 → AddsNothing r (rules (i / 64) (i % 64))
 
 -- the words to start from ----------------------------------------------------------------
 -- the first k rights of g, of x over y
@@ -118,32 +119,19 @@ abbrev pub markIf : Bool → List ℕ → ℕ → ℕ → ℕ → List ℕ
 markIf true r x y g = markTo r x y g 4
 markIf false r x y g = r
 
-abbrev pub slotOf : List Capability → ℕ → Capability
-slotOf s k = getD s k emptySlot
+-- the own rights of the first i of `nodes`
+unfoldable pub ownMarks : ℕ → ℕ → List ℕ
+ownMarks nodes zero = replicate 256 0
+ownMarks nodes (suc i) = markIf (has i nodes) (ownMarks nodes i) i i 15
 
--- what makes the marks right: `nodes` take part, and slots between numbers of `among` are held
-pub record Grounded (h : Holding) (s : List Capability) (nodes among : ℕ) : Type 0 where
-  pub own : (x : ℕ) → x < 64 → has x nodes ≡ true → h .node x ≡ true
-  pub held : (b : Right) (k : ℕ) → k < 512 → has (k / 8) among ≡ true → has (slotOf s k .target) among ≡ true
-      → has (bitAt b) (slotOf s k .rights) ≡ true → Can h b (k / 8) (slotOf s k .target)
+-- the first j slots between numbers of `among`
+unfoldable pub slotMarks : List Capability → ℕ → List ℕ → ℕ → List ℕ
+slotMarks s among r zero = r
+slotMarks s among r (suc j) =
+    markIf (has (j / 8) among && has (slotOf s j .target) among) (slotMarks s among r j) (j / 8) (slotOf s j .target) (slotOf s j .rights)
 
--- the own rights of the first i numbers, and the first j slots
-pub record Partly (s : List Capability) (nodes among : ℕ) (r : List ℕ) (i j : ℕ) : Type 0 where
-  pub full : Full r
-  pub derived : (h : Holding) → Grounded h s nodes among → Derived h r
-  pub own : (b : Right) (x : ℕ) → x < i → has x nodes ≡ true → has x (wordAt r b x) ≡ true
-  pub held : (b : Right) (k : ℕ) → k < j → has (k / 8) among ≡ true → has (slotOf s k .target) among ≡ true
-      → has (bitAt b) (slotOf s k .rights) ≡ true → has (slotOf s k .target) (wordAt r b (k / 8)) ≡ true
-
--- each of `nodes` has all four rights over itself, and each slot between numbers of `among` is held
-abbrev pub Begun : List Capability → ℕ → ℕ → List ℕ → Type 0
-Begun s nodes among r = Partly s nodes among r 64 512
-
--- the first n entries, held by x
-pub record Entered (s : List Capability) (among x : ℕ) (r q : List ℕ) (n : ℕ) : Type 0 where
-  pub kept : Kept r q
-  pub derived : (h : Holding)
-      → ((b : Right) (k : ℕ) → k < n → has (slotOf s k .target) among ≡ true → has (bitAt b) (slotOf s k .rights) ≡ true → Can h b x (slotOf s k .target))
-      → Derived h r → Derived h q
-  pub held : (b : Right) (k : ℕ) → k < n → has (slotOf s k .target) among ≡ true → has (bitAt b) (slotOf s k .rights) ≡ true
-      → has (slotOf s k .target) (wordAt q b x) ≡ true
+-- the first n entries whose target is in `among`, held by x
+unfoldable pub entryMarks : List Capability → ℕ → ℕ → List ℕ → ℕ → List ℕ
+entryMarks s among x r zero = r
+entryMarks s among x r (suc n) =
+    markIf (has (slotOf s n .target) among) (entryMarks s among x r n) x (slotOf s n .target) (slotOf s n .rights)

@@ -1,23 +1,33 @@
 -- The parts of the test that the code's helpers promise. They add nothing to what the test answers.
-use mathlib.Core.Bool.{Bool, not, _&&_, _||_}
+use mathlib.Core.Bool.{Bool, true, false, not, _&&_, _||_}
 use mathlib.Core.List.{List}
-use Prim.Native.Nat.{ℕ}
+use Prim.Native.Nat.{ℕ, zero, suc}
 use lib.Dec.{ltb, eqb}
 use lib.ListN.{length}
-use Rattle.mask.specs.Sets.{has, bits, anyBelow}
+use Rattle.mask.specs.Sets.{has, bits, anyBelow, unionOf}
 use Rattle.table.specs.declared.Capability.{Capability}
 use Rattle.table.specs.Cells.{isEmpty}
 use Rattle.access.specs.Relation.{wk}
-use Rattle.access.specs.Words.{wordAt}
+use Rattle.access.specs.Helpers.{wordAt}
 use Rattle.confinement.specs.StandIn.{entryAt}
 use Rattle.confinement.specs.Refusals.{allListed}
 
 -- row 11 by the set of born non-members
-abbrev pub entryBad : ℕ → Capability → Bool
-entryBad outside e = eqb (e .rights) 0 || ltb 15 (e .rights) || not (has (e .target) outside)
+abbrev pub entryRefused : ℕ → Capability → Bool
+entryRefused outside e = eqb (e .rights) 0 || ltb 15 (e .rights) || not (has (e .target) outside)
 
-unfoldable pub listBad : ℕ → List Capability → Bool
-listBad outside list = ltb 8 (length list) || anyBelow (length list) (λ k. entryBad outside (entryAt list k))
+unfoldable pub listRefused : ℕ → List Capability → Bool
+listRefused outside list = ltb 8 (length list) || anyBelow (length list) (λ k. entryRefused outside (entryAt list k))
+
+-- the rights that the first n entries have for a target: their union
+unfoldable pub listedTo : List Capability → ℕ → ℕ → ℕ
+listedTo list y zero = 0
+listedTo list y (suc n) =
+    elim (eqb (entryAt list n .target) y) [ true ↦ unionOf (listedTo list y n) (entryAt list n .rights) | false ↦ listedTo list y n ]
+
+-- those of the whole list
+unfoldable pub listedRights : List Capability → ℕ → ℕ
+listedRights list y = listedTo list y (length list)
 
 -- row 12 at a slot of n
 abbrev pub slotUnlisted : ℕ → List Capability → ℕ → Capability → Bool
