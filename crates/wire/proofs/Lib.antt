@@ -3,3 +3,9 @@ pub mod Sizes
 pub mod Fields
 pub mod Lists
 pub mod Few
+pub mod Pairs
+pub mod Writes
+pub mod Cases
+pub mod ReadBack
+pub mod WriteBack
+pub mod RoundTrip

@@ -43,7 +43,7 @@ module _ (bs : List ℕ) (h : fitsOf bs ≡ true) where
       let long = eqb (length bs) (sizeOf (codeIn bs) (countIn bs)) in
       and-true (listFits bs) long (and-true (ltb 0 (length bs)) (listFits bs && long) h .1)
 
-  fits-size : (k : ℕ) → codeIn bs ≡ k → length bs ≡ sizeOf k (countIn bs)
+  pub fits-size : (k : ℕ) → codeIn bs ≡ k → length bs ≡ sizeOf k (countIn bs)
   fits-size k e = eqb-true (length bs) _ (fits-parts .1) ∙ ap (λ (x : ℕ). sizeOf x (countIn bs)) e
 
   fits-count : (eqb (codeIn bs) 6 || eqb (codeIn bs) 7) ≡ true → countIn bs ≤ 4

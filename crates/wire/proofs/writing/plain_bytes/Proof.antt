@@ -1,0 +1,13 @@
+use mathlib.Core.Path.{refl}
+use borrow.Author.Needs.{needs}
+use Rattle.wire.proofs.writing.plain_bytes.Statement.{statement}
+use Rattle.wire.proofs.writing.plain_bytes.Tie as tie
+
+head-requires : tie.Need-head-requires
+head-requires c κs = search needs
+
+returns : tie.Need-returns
+returns c = rw (c .head .ensures) refl
+
+pub plain-bytes-spec : {M : Type 1} → statement M
+plain-bytes-spec = tie.close (tie.spec head-requires returns)

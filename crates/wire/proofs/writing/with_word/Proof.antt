@@ -1,0 +1,33 @@
+use Rattle.wire.proofs.Writes.{word-left}
+use borrow.Author.Needs.{needs}
+use Rattle.wire.proofs.writing.with_word.Statement.{statement}
+use Rattle.wire.proofs.writing.with_word.Tie as tie
+
+head-requires : tie.Need-head-requires
+head-requires c κs = search needs
+
+sub-put-number : tie.Need-sub-put-number
+sub-put-number c = search needs
+
+part-bytes-start : tie.Need-part-bytes-start
+part-bytes-start c = search needs
+
+part-bytes-end : tie.Need-part-bytes-end
+part-bytes-end c = search needs
+
+put-number-requires : tie.Need-put-number-requires
+put-number-requires c κs = search needs
+
+returns : tie.Need-returns
+returns c = word-left (c .before .before .before .before .args .code) (c .before .before .before .before .args .actor) (c .before .before .before .before .args .t) (c .before .before .before .before .args .word) _ _ (c .before .before .before .head .ensures) (c .before .put-number .ensures)
+
+pub with-word-spec : {M : Type 1} → statement M
+with-word-spec =
+    tie.close
+    (tie.spec
+    head-requires
+    sub-put-number
+    part-bytes-start
+    part-bytes-end
+    put-number-requires
+    returns)

@@ -1,0 +1,13 @@
+use Rattle.wire.proofs.Writes.{write-left}
+use borrow.Author.Needs.{needs}
+use Rattle.wire.proofs.writing.write_bytes.Statement.{statement}
+use Rattle.wire.proofs.writing.write_bytes.Tie as tie
+
+with-word-requires : tie.Need-with-word-requires
+with-word-requires c κs = search needs
+
+returns : tie.Need-returns
+returns c = write-left (c .before .args .actor) (c .before .args .t) (c .before .args .word) _ (c .with-word .ensures)
+
+pub write-bytes-spec : {M : Type 1} → statement M
+write-bytes-spec = tie.close (tie.spec with-word-requires returns)
