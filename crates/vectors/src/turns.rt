@@ -3,6 +3,9 @@
 use crate::digest;
 use crate::input;
 use crate::output;
+use captable::Outcome;
+use requests::PairList;
+use requests::Request;
 use steps::Stepped;
 use table::Table;
 
@@ -20,14 +23,26 @@ pub fn kept(found: bool, t: Table) -> Turn {
     }
 }
 
-// Prints the line of a step, and gives the table after it.
+// Prints the line of a step.
+fn line(number: u64, reply: u8, after: Table) {
+    output::number(number);
+    output::number(reply as u64);
+    output::digest(digest::of_table(after));
+    output::text(b"\n");
+}
+
+// Prints the line of a step by value, and gives the table after it.
 fn answer(number: u64, stepped: Stepped) -> Table {
     let reply = stepped.reply;
     let after = stepped.table;
-    output::number(number);
-    output::number(numbers::of_reply(reply) as u64);
-    output::digest(digest::of_table(after));
-    output::text(b"\n");
+    line(number, numbers::of_reply(reply), after);
+    after
+}
+
+// The same of a step on the table lent.
+fn answer_lent(number: u64, outcome: Outcome) -> Table {
+    let after = outcome.table;
+    line(number, outcome.number, after);
     after
 }
 
@@ -50,6 +65,22 @@ pub fn chain_start(fd: i32) -> Table {
     input::raw_table(&bytes)
 }
 
+// A step on the table lent, with the first `count` of the bytes.
+fn lent_bytes(t: Table, bytes: &[u8], count: usize) -> Outcome {
+    if bytes.len() < count {
+        return captable::stepped_in_place(t, bytes);
+    }
+    captable::stepped_in_place(t, &bytes[..count])
+}
+
+// A step on the table lent: the request is written as bytes, as the firmware hands it in. One whose list is too long has none, and is
+// refused by 2 as well.
+fn lent(t: Table, request: Request, list: PairList) -> Outcome {
+    let written = wire::writing::request_bytes(request, list);
+    let bytes = written.bytes;
+    lent_bytes(t, &bytes, written.count)
+}
+
 // The next request of a chain, by value or on the table lent.
 pub fn link(fd: i32, number: u64, t: Table, in_place: bool) -> Turn {
     let mut bytes = [0u8; 29];
@@ -59,12 +90,11 @@ pub fn link(fd: i32, number: u64, t: Table, in_place: bool) -> Turn {
     }
     let request = input::request(&bytes, 0);
     let list = input::pair_list(&bytes, 0);
-    let stepped = if in_place {
-        steps::step(t, request, list)
+    let after = if in_place {
+        answer_lent(number, lent(t, request, list))
     } else {
-        steps::step(t, request, list)
+        answer(number, steps::step(t, request, list))
     };
-    let after = answer(number, stepped);
     Turn {
         found: true,
         table: after,

@@ -16,7 +16,6 @@ use Rattle.requests.specs.declared.PairList.{PairList}
 use Rattle.requests.specs.Asks.{PairsInBits, noPair, pairAt, pairsOf}
 use Rattle.wire.specs.Written.{pairBytes, listBytes}
 
-
 pub length-pairs : (ps : List Pair) → length (pairBytes ps) ≡ 2 * length ps
 unfolding pairBytes
 length-pairs [] = refl

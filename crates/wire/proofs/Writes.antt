@@ -16,8 +16,6 @@ use Rattle.wire.specs.declared.Written.{Written}
 use Rattle.wire.specs.Written.{pairBytes, listBytes, fieldBytes, requestBytes, heldBytes, writtenOf}
 use Rattle.wire.proofs.Pairs.{length-pairs, length-held, zeros-push}
 
-
-
 -- by the length of the list
 module _ (q : Ask) where
   pub written-short : length (pairsIn q) ≤ 4 → heldBytes (requestBytes q) ≡ writtenOf q
