@@ -3,18 +3,18 @@
 -- the rules; and the influenced set of x has y exactly if influence steps lead from x to y.
 -- The argument: self rights are total, so one held rd, wr or tx gives both ends everything over each other (a bond), and wk
 -- alone goes along links. Each rule keeps "there is a path", and each edge is an instance of the rules. Assumes nothing.
-use mathlib.Core.Path.{_≡_, refl, sym, _∙_, ap, subst}
-use mathlib.Core.Bool.{Bool, true, false, not, _&&_, _||_, false≢true}
-use Prim.Native.Nat.{ℕ, _^_, _≤_, _<_}
+use mathlib.Core.Path.{_≡_, refl}
+use mathlib.Core.Bool.{Bool, true, false, _||_, false≢true}
+use Prim.Native.Nat.{ℕ, _^_, _<_}
 use native.Mathlib.Omega.{arith}
 use lib.Dec.{ltb}
 use borrow.Author.Tests.{ltb-true}
 use Rattle.mask.specs.Sets.{has}
-use Rattle.mask.proofs.Tests.{byCases, clash, and-true, and-intro, or-cases, or-left, or-right, or-swap}
+use Rattle.mask.proofs.Tests.{clash, and-true, and-intro, or-cases, or-left, or-right, or-swap}
 use Rattle.mask.proofs.Bits.{has-zero}
 use Rattle.table.specs.declared.Table.{Table}
 use Rattle.access.specs.Relation.{Right, rd, wr, wk, tx, Holding, Can, holds, self, reads, weak-rd, weak-wk, writes, sends, Influences, by-wr, by-tx, by-rd, by-wk, Influenced, first, more, takesPart, tableHolding}
-use Rattle.access.specs.Closure.{reached, bothTakePart, holdsStrong, bond, link, linkBack, edgeOf, rowOf, influencedSet}
+use Rattle.access.specs.Closure.{bothTakePart, holdsStrong, bond, link, linkBack, edgeOf, rowOf, influencedSet}
 use Rattle.access.specs.Exactness.{Low, AccessExact, InfluenceExact}
 use Rattle.access.proofs.Reach.{Path, stay, step, join, turn, reached-lt, reached-path, path-reached}
 

@@ -1,21 +1,21 @@
 -- Feeds of one word into another: what the code's straight lines come to, that words only grow, and that a pass which adds
 -- nothing meets no rule that would. Assumes nothing.
 use mathlib.Core.Path.{_≡_, refl, sym, _∙_, ap, subst, subst⁻¹}
-use mathlib.Core.Bool.{Bool, true, false, _||_}
+use mathlib.Core.Bool.{Bool, true, false}
 use mathlib.Core.List.{List, [], _∷_}
 use Prim.Native.Nat.{ℕ, zero, suc, _+_, _*_, _/_, _%_, _^_, _≤_, _<_}
 use native.Mathlib.Numerals.{add-one}
 use native.Mathlib.Omega.{arith}
-use lib.Dec.{ltb, eqb}
+use lib.Dec.{ltb}
 use lib.Bits.{bitOr, bitAnd, and-mask, or-add-and, and-le-r}
-use lib.ListN.{length, getD, set, length-set}
+use lib.ListN.{length, getD, set}
 use borrow.Author.Tests.{ltb-true, ltb-false, eq-eqb, ne-eqb}
 use Rattle.mask.specs.Sets.{has}
 use Rattle.mask.proofs.Tests.{byCases, byEq, or-none}
 use Rattle.mask.proofs.Bits.{has-zero}
 use Rattle.mask.proofs.Words.{has-or}
-use Rattle.access.specs.Relation.{Right, rd, wr, wk, tx, bitAt}
-use Rattle.access.specs.Helpers.{place, wordAt, Feed, feed, feedAll, shares, viaRead, viaWeak, viaPush, rules, heldOver, rowPass, passOf, AddsNothing, Full}
+use Rattle.access.specs.Relation.{rd, wr, wk, tx}
+use Rattle.access.specs.Helpers.{wordAt, Feed, feed, feedAll, shares, viaRead, viaWeak, viaPush, rules, heldOver, rowPass, passOf, AddsNothing, Full}
 
 or-high : (a b : ℕ) → a ≤ bitOr a b
 or-high a b = omega (arith, or-add-and a b, and-le-r a b)

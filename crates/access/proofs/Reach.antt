@@ -1,13 +1,13 @@
 -- The reachability kernel: what `reached` computes is exactly what paths of edges reach, for every graph on the numbers
 -- below 64. A round that changes something adds a number, and there are 64. Assumes nothing.
-use mathlib.Core.Path.{_≡_, refl, sym, _∙_, ap, subst, subst⁻¹}
+use mathlib.Core.Path.{_≡_, refl, sym, _∙_, subst, subst⁻¹}
 use mathlib.Core.Logic.{_≢_}
-use mathlib.Core.Bool.{Bool, true, false, not, _&&_, _||_, false≢true}
+use mathlib.Core.Bool.{Bool, true, false, not, _&&_, _||_}
 use Prim.Native.Nat.{ℕ, zero, suc, _+_, _^_, _≤_, _<_}
 use native.Mathlib.Omega.{arith}
 use lib.Dec.{eqb}
 use borrow.Author.Tests.{eqb-true, eq-eqb, ne-eqb, not-true}
-use Rattle.mask.specs.Sets.{has, bits, bitOf, anyBelow}
+use Rattle.mask.specs.Sets.{has, bitOf, anyBelow}
 use Rattle.mask.proofs.Tests.{byCases, byEq, clash, and-true, and-intro, or-cases, or-left, or-right, bool-ext}
 use Rattle.mask.proofs.Below.{any-intro, any-elim}
 use Rattle.mask.proofs.Bits.{has-bits, bits-lt, bits-ext}

@@ -1,7 +1,7 @@
 -- Words that the rules leave as they are, that have the held rights and each number's own, and nothing but what the rules give,
 -- are the closure, word for word. Assumes nothing.
 use mathlib.Core.Path.{_≡_, refl, sym, _∙_, ap, subst, subst⁻¹}
-use mathlib.Core.Bool.{Bool, true, false, _||_}
+use mathlib.Core.Bool.{true}
 use mathlib.Core.List.{List, [], _∷_}
 use Prim.Native.Nat.{ℕ, zero, suc, _+_, _*_, _/_, _%_, _^_, _≤_, _<_}
 use native.Mathlib.Omega.{arith}
@@ -21,7 +21,7 @@ use Rattle.access.specs.Closure.{rowOf}
 use Rattle.access.specs.Exactness.{Low}
 use Rattle.access.specs.Answers.{rightAt}
 use Rattle.access.specs.Helpers.{place, wordAt, Full, Feed, feed, feedAll, viaRead, viaWeak, viaPush, rules, passOf, AddsNothing, Kept, Derived, Saturated}
-use Rattle.access.proofs.Exact.{Means, means, row-can, can-row, row-lt}
+use Rattle.access.proofs.Exact.{means, row-can, can-row, row-lt}
 use Rattle.access.proofs.Feeds.{total, pass-still}
 
 -- places --------------------------------------------------------------------------

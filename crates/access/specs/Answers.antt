@@ -1,6 +1,6 @@
 -- What potential access answers: "The relation is answered whole, for all 64 numbers"; for a table that is not sound the
 -- number 1 and no rights.
-use mathlib.Core.Bool.{Bool, true, false, not, _&&_}
+use mathlib.Core.Bool.{true, false, not, _&&_}
 use mathlib.Core.List.{List}
 use Prim.Native.Nat.{ℕ, zero, suc, _/_, _%_}
 use lib.ListN.{getD, replicate}

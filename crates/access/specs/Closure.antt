@@ -1,6 +1,6 @@
 -- The closure that computes potential access and influenced sets, by reachability in two graphs on the numbers below 64.
 -- Exactness.antt states that it is the least relation of Relation.antt, for holdings of numbers below 64.
-use mathlib.Core.Bool.{Bool, true, false, not, _&&_, _||_}
+use mathlib.Core.Bool.{Bool, true, false, _&&_, _||_}
 use Prim.Native.Nat.{ℕ, zero, suc}
 use lib.Dec.{eqb}
 use Rattle.mask.specs.Sets.{has, bits, anyBelow}

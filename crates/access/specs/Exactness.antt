@@ -5,8 +5,7 @@ use mathlib.Core.Logic.{_↔_}
 use mathlib.Core.Bool.{true}
 use Prim.Native.Nat.{ℕ, _<_}
 use Rattle.mask.specs.Sets.{has}
-use Rattle.table.specs.declared.Table.{Table}
-use Rattle.access.specs.Relation.{Right, Holding, Can, Influenced, tableHolding}
+use Rattle.access.specs.Relation.{Right, Holding, Can, Influenced}
 use Rattle.access.specs.Closure.{rowOf, influencedSet}
 
 -- a holding whose participants are numbers of a table

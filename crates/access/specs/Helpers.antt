@@ -10,7 +10,7 @@ use lib.Bits.{bitOr}
 use lib.ListN.{length, getD, set, replicate}
 use Rattle.mask.specs.Sets.{has}
 use Rattle.table.specs.declared.Capability.{Capability}
-use Rattle.table.specs.Cells.{slotOf, emptySlot}
+use Rattle.table.specs.Cells.{slotOf}
 use Rattle.access.specs.Relation.{Right, rd, wr, wk, tx, bitAt, Holding, Can}
 
 abbrev pub place : Right → ℕ → ℕ

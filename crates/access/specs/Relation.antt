@@ -1,7 +1,7 @@
 -- Document 01, "Potential access and influence": the least relation over a holding, which says who takes part and who holds
 -- which right over whom. The table is one holding; the confinement test's stand-in and non-members are another.
 use mathlib.Core.Path.{_≡_}
-use mathlib.Core.Bool.{Bool, true, false, _&&_}
+use mathlib.Core.Bool.{Bool, true, _&&_}
 use Prim.Native.Nat.{ℕ}
 use lib.Dec.{ltb, eqb}
 use Rattle.mask.specs.Sets.{has, anyBelow}

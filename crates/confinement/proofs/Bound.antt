@@ -14,8 +14,8 @@ use Rattle.mask.proofs.Bits.{has-less, bits-lt}
 use Rattle.table.specs.declared.Capability.{Capability}
 use Rattle.table.specs.declared.Record.{Record}
 use Rattle.table.specs.declared.Table.{Table}
-use Rattle.table.specs.Cells.{recordAt, slotAt, isBorn}
-use Rattle.access.specs.Relation.{Right, rd, wr, wk, tx, Holding, Can, Influenced, takesPart, holdsIn}
+use Rattle.table.specs.Cells.{isBorn}
+use Rattle.access.specs.Relation.{Right, rd, wr, wk, tx, Can, Influenced, takesPart, holdsIn}
 use Rattle.access.specs.Closure.{influencedSet, rowOf, link, bothTakePart, holdsStrong, reached}
 use Rattle.access.proofs.Exact.{set-influenced, influenced-set, row-can, can-row}
 use Rattle.confinement.specs.StandIn.{standIn, testNode, testHeld, testHolding, boundOf}

@@ -1,15 +1,15 @@
 -- What an accepted test says of the table, row by row, as facts about every number. The two-run theorem starts from these.
 -- Assumes nothing.
-use mathlib.Core.Path.{_≡_, refl, sym, _∙_, ap, subst}
+use mathlib.Core.Path.{_≡_, refl, ap}
 use mathlib.Core.Bool.{Bool, true, false, not, _&&_, _||_, false≢true}
 use mathlib.Core.List.{List}
 use Prim.Native.Nat.{ℕ, zero, suc, _+_, _≤_, _<_}
 use native.Mathlib.Omega.{arith}
 use lib.Dec.{ltb, eqb}
 use lib.ListN.{length}
-use borrow.Author.Tests.{ltb-false, eqb-true, not-true, not-false}
-use Rattle.mask.specs.Sets.{has, anyBelow}
-use Rattle.mask.proofs.Tests.{byCases, clash, and-true, and-intro, or-none, imply-use}
+use borrow.Author.Tests.{ltb-false, eqb-true, not-false}
+use Rattle.mask.specs.Sets.{has}
+use Rattle.mask.proofs.Tests.{byCases, clash, and-true, or-none, imply-use}
 use Rattle.mask.proofs.Below.{any-none, any-elim}
 use Rattle.table.specs.declared.Capability.{Capability}
 use Rattle.table.specs.declared.Table.{Table}

@@ -1,10 +1,10 @@
 -- Document 01, "Why something is turned down", rows 1 and 10 to 13, in number order.
 use mathlib.Core.Bool.{Bool, true, false, not, _&&_, _||_}
-use mathlib.Core.List.{List, [], _∷_}
+use mathlib.Core.List.{List}
 use Prim.Native.Nat.{ℕ}
 use lib.Dec.{ltb, eqb}
 use lib.ListN.{length}
-use Rattle.mask.specs.Sets.{has, allBelow, anyBelow}
+use Rattle.mask.specs.Sets.{has, anyBelow}
 use Rattle.table.specs.declared.Capability.{Capability}
 use Rattle.table.specs.declared.Table.{Table}
 use Rattle.table.specs.Cells.{recordAt, slotAt, isAlive, isEmpty}

@@ -1,7 +1,7 @@
 -- Document 01, "The confinement test": "The bound uses the non-members and one stand-in in place of all members; the stand-in
 -- holds exactly the list." The stand-in sits at the lowest member's own number, so that 64 numbers stay enough.
 use mathlib.Core.Bool.{Bool, true, false, not, _&&_}
-use mathlib.Core.List.{List, [], _∷_}
+use mathlib.Core.List.{List}
 use Prim.Native.Nat.{ℕ, zero, suc}
 use lib.Dec.{ltb, eqb}
 use lib.ListN.{length, getD}

@@ -3,7 +3,7 @@ use crate::EntryList;
 use table::Capability;
 use table::Table;
 ghost use mathlib.Core.Path.{_≡_};
-ghost use mathlib.Core.Bool.{Bool, not, _||_};
+ghost use mathlib.Core.Bool.{not, _||_};
 ghost use Prim.Native.Nat.{_≤_, _<_};
 ghost use Rattle.mask.specs.Sets.{has};
 ghost use Rattle.confinement.specs.StandIn.{entriesOf};

@@ -1,6 +1,6 @@
 -- Document 01, "The eight requests", the column "Effect", read only where no refusal is met. Each effect is puts of
 -- records and slots, one after the other.
-use mathlib.Core.Bool.{Bool, true, false}
+use mathlib.Core.Bool.{true, false}
 use mathlib.Core.List.{List, [], _∷_}
 use Prim.Native.Nat.{ℕ, zero, suc}
 use lib.Dec.{ltb}

@@ -1,7 +1,7 @@
 -- Example 11: the closure is computed, and the theorem that it is the least relation carries what it says, and what it denies,
 -- to the relation itself. Assumes nothing.
 use mathlib.Core.Path.{_≡_, refl}
-use mathlib.Core.Bool.{Bool, true, false, _&&_}
+use mathlib.Core.Bool.{Bool, true, false}
 use Prim.Native.Nat.{ℕ, _<_}
 use native.Mathlib.Omega.{arith}
 use Rattle.mask.specs.Sets.{has, bits, anyBelow}

@@ -1,7 +1,6 @@
 -- Examples 1 and 12, computed from the bytes. Assumes nothing.
 use mathlib.Core.Path.{_≡_, refl}
-use mathlib.Core.List.{List, [], _∷_}
-use Prim.Native.Nat.{ℕ}
+use mathlib.Core.List.{[], _∷_}
 use lib.ListN.{take, set}
 use Rattle.mask.specs.Sets.{bits, allBelow, anyBelow, lessOf}
 use Rattle.table.specs.Lists.{tabulate}

@@ -1,11 +1,10 @@
 -- Examples 6 to 10, computed. Assumes nothing.
 use mathlib.Core.Path.{_≡_, refl}
-use mathlib.Core.List.{[]}
-use Prim.Native.Nat.{ℕ, _^_}
+use Prim.Native.Nat.{ℕ}
 use Rattle.mask.specs.Sets.{bits, allBelow, excluding, lessOf, subsetOf}
 use Rattle.table.specs.Cells.{recordAt, stockAt, emptySlot}
 use Rattle.table.specs.Soundness.{stockSound, soundAt, sound}
-use Rattle.requests.specs.Asks.{read, write, allocate}
+use Rattle.requests.specs.Asks.{read, write}
 use Rattle.refusals.specs.Replies.{number}
 use Rattle.refusals.specs.Refusals.{badSlots, badList, badField, needMet, through, throughSlot, notInStock, laterRows, refusal}
 use Rattle.effects.specs.Effects.{weaken, copyPairs, stockLess, allocated, effect}

@@ -1,7 +1,6 @@
 -- Examples 2 to 5, computed. Assumes nothing.
 use mathlib.Core.Path.{_≡_, refl}
 use mathlib.Core.List.{List, [], _∷_}
-use Prim.Native.Nat.{ℕ, _^_}
 use Rattle.mask.specs.Sets.{bits, allBelow, anyBelow, lessOf}
 use Rattle.table.specs.declared.Capability.{Capability}
 use Rattle.table.specs.Soundness.{stockSound, soundAt, sound}

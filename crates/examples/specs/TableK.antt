@@ -1,6 +1,6 @@
 -- Document 01, "Table K": "alive 0 to 6; active 0, 2, 4, 5. Slot 0 of 0 is (1, rd), of 2 (1, wk), of 4 (3, wr), of 5 (1, wr);
 -- slot 1 of 2 is (6, wk). Stocks: 5 has {10, 11}, 4 has {12}. All else is empty, zero or unborn."
-use mathlib.Core.List.{List, [], _∷_, _++_}
+use mathlib.Core.List.{[], _∷_, _++_}
 use Prim.Native.Nat.{ℕ, _+_, _^_}
 use lib.ListN.{replicate}
 use Rattle.table.specs.declared.Capability.{Capability}

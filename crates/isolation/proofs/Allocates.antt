@@ -4,13 +4,13 @@
 -- nobody's before. Assumes nothing.
 use mathlib.Core.Path.{_≡_, refl, sym, _∙_, ap}
 use mathlib.Core.Logic.{_≢_}
-use mathlib.Core.Bool.{Bool, true, false, not, _&&_, _||_, true≢false}
+use mathlib.Core.Bool.{true, false, not, _||_, true≢false}
 use mathlib.Core.List.{List}
 use Prim.Native.Nat.{ℕ, _≤_, _<_}
 use native.Mathlib.Omega.{arith}
 use lib.Dec.{ltb, eqb}
 use borrow.Author.Tests.{ltb-false, eqb-false, eq-eqb, ne-eqb, not-true}
-use Rattle.mask.specs.Sets.{has, excluding, lessOf}
+use Rattle.mask.specs.Sets.{has, excluding}
 use Rattle.mask.proofs.Tests.{byCases, byEq, clash, and-true, or-none}
 use Rattle.mask.proofs.Bits.{has-excluding, has-less}
 use Rattle.table.specs.declared.Record.{Record}
@@ -27,7 +27,7 @@ use Rattle.effects.specs.Effects.{withStock, made, fullOver, stockLess, copyPai
 use Rattle.isolation.specs.Clean.{Clean, adding}
 use Rattle.isolation.specs.Demand.{AgreeOn}
 use Rattle.isolation.proofs.Invariant.{Isolated, nobody-clean, putSlot-isolated, putRecord-isolated, agree-slot-out, agree-record-out, agree-trans, agree-slot, agree-record}
-use Rattle.isolation.proofs.Granted.{passed, PastChecks, past-checks, slot-low, object-low, Ranged, ranged, Within, within}
+use Rattle.isolation.proofs.Granted.{passed, past-checks, slot-low, object-low, Ranged, ranged, Within, within}
 use Rattle.isolation.proofs.Sides.{fits-live, stock-kept}
 use Rattle.isolation.proofs.Copies.{fits-moved, copies-record, copies-sized, copies-isolated, copies-out, copies-both}
 

@@ -2,11 +2,10 @@
 -- agree, a request of a clean actor gets the same reply in both, makes the same objects clean, and keeps both the invariant and
 -- the agreement. Every check of every request reads only the actor, its target and its stock, which are clean. Assumes nothing.
 use mathlib.Core.Path.{_≡_, refl, sym, _∙_, ap, ap₂}
-use mathlib.Core.Bool.{Bool, true, false, not, _||_, _&&_}
-use mathlib.Core.List.{List}
+use mathlib.Core.Bool.{Bool, true, false, not, _||_}
 use Prim.Native.Nat.{ℕ, _≤_, _<_}
 use lib.Dec.{eqb}
-use Rattle.mask.proofs.Tests.{byCases, clash, or-none}
+use Rattle.mask.proofs.Tests.{byCases, or-none}
 use Rattle.table.specs.declared.Capability.{Capability}
 use Rattle.table.specs.declared.Record.{Record}
 use Rattle.table.specs.declared.Table.{Table}
@@ -16,14 +15,14 @@ use Rattle.table.proofs.SoundFacts.{sound-true}
 use Rattle.refusals.specs.declared.Need.{Need}
 use Rattle.refusals.specs.declared.Need.the-variants.{ReadOrWeak, Write, Send}
 use Rattle.refusals.specs.declared.Reply.{Reply}
-use Rattle.refusals.specs.declared.Reply.the-variants.{Done, FieldInvalid, ActorUnfit, SlotEmpty, TargetDead, RightAbsent, TargetPassive, ActorItself, NotInStock}
+use Rattle.refusals.specs.declared.Reply.the-variants.{Done, ActorUnfit, SlotEmpty, TargetDead, RightAbsent, TargetPassive, ActorItself, NotInStock}
 use Rattle.requests.specs.Asks.{Ask, read, write, fetch, store, revoke, send, allocate, destroy, unknown, actorOf}
 use Rattle.refusals.specs.Replies.{isDone}
 use Rattle.refusals.specs.Refusals.{refuse, noSlot, noObject, badList, badField, unfit, needMet, alive, otherStatus, through, throughSlot, notInStock, targetOf, laterRows, refusal}
 use Rattle.effects.specs.Effects.{effect}
 use Rattle.steps.specs.Steps.{after}
 use Rattle.steps.proofs.Refused.{refused-keeps, done-effects}
-use Rattle.isolation.specs.Clean.{Clean, adding, cleanAfter}
+use Rattle.isolation.specs.Clean.{Clean, cleanAfter}
 use Rattle.isolation.specs.Demand.{AgreeOn}
 use Rattle.isolation.proofs.Invariant.{Isolated}
 use Rattle.isolation.proofs.Granted.{slot-low, filled-slot}

@@ -1,8 +1,8 @@
 -- Slots that are copied, answered or emptied: each keeps the invariant, leaves the clean objects alone where the destination is
 -- not clean, and keeps two tables in agreement where the copies are equal. Assumes nothing.
-use mathlib.Core.Path.{_≡_, refl, sym, _∙_, ap, ap₂}
-use mathlib.Core.Bool.{Bool, true, false}
-use mathlib.Core.List.{List, [], _∷_}
+use mathlib.Core.Path.{_≡_, refl, sym, _∙_, ap₂}
+use mathlib.Core.Bool.{true, false}
+use mathlib.Core.List.{List}
 use Prim.Native.Nat.{ℕ, zero, suc, _≤_, _<_}
 use native.Mathlib.Omega.{arith}
 use lib.Dec.{ltb}
@@ -12,7 +12,6 @@ use Rattle.table.specs.declared.Capability.{Capability}
 use Rattle.table.specs.declared.Table.{Table}
 use Rattle.table.specs.Cells.{emptySlot, recordAt, slotAt, statusAt, putSlot}
 use Rattle.table.proofs.Cells.{Sized, sized-putSlot, slot-same, slot-beside}
-use Rattle.table.proofs.SoundFacts.{SlotFine}
 use Rattle.requests.specs.declared.Pair.{Pair}
 use Rattle.effects.specs.Effects.{landed, copyTo, copyPairs, answerSlot, clearSlots}
 use Rattle.isolation.specs.Clean.{Clean}

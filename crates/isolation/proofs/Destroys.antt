@@ -2,8 +2,8 @@
 -- they leave every clean object as it was; from a clean actor they keep two agreeing tables in agreement. Assumes nothing.
 use mathlib.Core.Path.{_≡_, refl, sym, _∙_, ap}
 use mathlib.Core.Logic.{_≢_}
-use mathlib.Core.Bool.{Bool, true, false, not, _||_}
-use Prim.Native.Nat.{ℕ, _≤_, _<_}
+use mathlib.Core.Bool.{true, false}
+use Prim.Native.Nat.{ℕ, _<_}
 use native.Mathlib.Omega.{arith}
 use lib.Dec.{eqb}
 use borrow.Author.Tests.{eqb-false}
@@ -15,7 +15,6 @@ use Rattle.table.specs.declared.Table.{Table}
 use Rattle.table.specs.Cells.{recordAt, slotAt, statusAt, stockAt, putRecord}
 use Rattle.table.proofs.Cells.{record-put, sized-putRecord}
 use Rattle.refusals.specs.declared.Need.the-variants.{Write}
-use Rattle.refusals.specs.declared.Reply.{Reply}
 use Rattle.refusals.specs.declared.Reply.the-variants.{Done, ActorItself}
 use Rattle.requests.specs.Asks.{destroy}
 use Rattle.refusals.specs.Replies.{isDone}
@@ -24,7 +23,7 @@ use Rattle.effects.specs.Effects.{clearSlots, withStock, died, destroyed, effec
 use Rattle.isolation.specs.Clean.{Clean}
 use Rattle.isolation.specs.Demand.{AgreeOn}
 use Rattle.isolation.proofs.Invariant.{Isolated, putRecord-isolated, agree-record-out, agree-trans, agree-record}
-use Rattle.isolation.proofs.Granted.{passed, PastChecks, past-checks, Granted, granted}
+use Rattle.isolation.proofs.Granted.{passed, past-checks, Granted, granted}
 use Rattle.isolation.proofs.Sides.{clean-target, dirty-target, weak-no-write, fits-live, stock-kept}
 use Rattle.isolation.proofs.Copies.{clear-record, clear-isolated, clear-sized, clear-bare, clear-out, clear-both}
 

@@ -1,7 +1,7 @@
 -- What is known of a request that was answered 0: each refusal row denied, as a fact. Assumes nothing.
 use mathlib.Core.Path.{_≡_, refl, sym, _∙_, ap}
 use mathlib.Core.Logic.{_≢_}
-use mathlib.Core.Bool.{Bool, true, false, not, _&&_, _||_, true≢false, false≢true}
+use mathlib.Core.Bool.{Bool, true, false, not, _||_}
 use mathlib.Core.List.{List, [], _∷_}
 use Prim.Native.Nat.{ℕ, _≤_, _<_}
 use native.Mathlib.Omega.{arith}
@@ -21,7 +21,7 @@ use Rattle.table.proofs.SoundFacts.{SlotFine, Sound}
 use Rattle.requests.specs.declared.Pair.{Pair}
 use Rattle.refusals.specs.declared.Need.{Need}
 use Rattle.refusals.specs.declared.Reply.{Reply}
-use Rattle.refusals.specs.declared.Reply.the-variants.{Done, TableUnsound, FieldInvalid, ActorUnfit, SlotEmpty, TargetDead, RightAbsent}
+use Rattle.refusals.specs.declared.Reply.the-variants.{TableUnsound, FieldInvalid, ActorUnfit, SlotEmpty, TargetDead, RightAbsent}
 use Rattle.requests.specs.Asks.{Ask, actorOf}
 use Rattle.refusals.specs.Replies.{isDone}
 use Rattle.refusals.proofs.Rows.{status-wanted}

@@ -4,7 +4,7 @@
 -- the clean objects as they were; equal puts keep two tables in agreement. Assumes nothing.
 use mathlib.Core.Path.{_≡_, refl, sym, _∙_, ap}
 use mathlib.Core.Logic.{_≢_}
-use mathlib.Core.Bool.{Bool, true, false}
+use mathlib.Core.Bool.{true, false}
 use Prim.Native.Nat.{ℕ, _≤_, _<_}
 use native.Mathlib.Omega.{arith}
 use Rattle.mask.specs.Sets.{has}
@@ -12,7 +12,7 @@ use Rattle.mask.proofs.Tests.{byCases, byEq, clash}
 use Rattle.table.specs.declared.Capability.{Capability}
 use Rattle.table.specs.declared.Record.{Record}
 use Rattle.table.specs.declared.Table.{Table}
-use Rattle.table.specs.Cells.{recordAt, slotAt, statusAt, stockAt, putRecord, putSlot}
+use Rattle.table.specs.Cells.{slotAt, statusAt, stockAt, putRecord, putSlot}
 use Rattle.table.proofs.Cells.{Sized, sized-putSlot, sized-putRecord, record-same, record-other, slot-same, slot-other, slot-beside, slot-put, record-put, record-high}
 use Rattle.table.proofs.SoundFacts.{RecordFine, SlotFine, Sound}
 use Rattle.isolation.specs.Clean.{Clean}

@@ -1,8 +1,8 @@
 -- The step of an actor that is not clean (also a dead, passive, unborn or out-of-range one): under the invariant, any request of
 -- such an actor leaves every clean record and slot as it was and keeps the invariant with the same clean objects. With nobody
 -- clean this is: every step from a sound table gives a sound table. Assumes nothing.
-use mathlib.Core.Path.{_≡_, refl, sym, _∙_, ap}
-use mathlib.Core.Bool.{Bool, true, false, not, false≢true}
+use mathlib.Core.Path.{_≡_, refl}
+use mathlib.Core.Bool.{true, false}
 use Prim.Native.Nat.{ℕ}
 use Rattle.mask.proofs.Tests.{byCases, clash}
 use Rattle.table.specs.declared.Table.{Table}
@@ -18,7 +18,7 @@ use Rattle.steps.proofs.Refused.{refused-keeps, done-effects}
 use Rattle.isolation.specs.Clean.{Clean}
 use Rattle.isolation.specs.Demand.{AgreeOn}
 use Rattle.isolation.proofs.Invariant.{Isolated, agree-refl}
-use Rattle.isolation.proofs.Granted.{PastChecks, past-checks}
+use Rattle.isolation.proofs.Granted.{past-checks}
 use Rattle.isolation.proofs.Slots.{read-isolated, read-out, write-isolated, write-out, fetch-isolated, fetch-out, store-isolated, store-out, revoke-isolated, revoke-out}
 use Rattle.isolation.proofs.Sends.{send-isolated, send-out}
 use Rattle.isolation.proofs.Allocates.{allocate-isolated, allocate-out}

@@ -2,12 +2,9 @@
 -- can be left out (Others) and a clean one goes alike in both (CleanStep). Two runs that keep the same clean requests are
 -- therefore alike. Assumes nothing.
 use mathlib.Core.Path.{_≡_, refl, sym, _∙_, ap}
-use mathlib.Core.Bool.{Bool, true, false}
 use mathlib.Core.List.{List, [], _∷_}
-use Prim.Native.Nat.{ℕ}
 use Rattle.mask.proofs.Tests.{byCases}
 use Rattle.table.specs.declared.Table.{Table}
-use Rattle.refusals.specs.declared.Reply.{Reply}
 use Rattle.requests.specs.Asks.{Ask, actorOf}
 use Rattle.refusals.specs.Refusals.{refusal}
 use Rattle.steps.specs.Steps.{after, runTable}
@@ -15,7 +12,7 @@ use Rattle.isolation.specs.Clean.{Clean, cleanAfter, cleanAtEnd, cleanRe
 use Rattle.isolation.specs.Demand.{AgreeOn}
 use Rattle.isolation.proofs.Invariant.{Isolated, agree-refl, agree-sym, agree-trans}
 use Rattle.isolation.proofs.Others.{other-step}
-use Rattle.isolation.proofs.CleanStep.{Both, clean-step, clean-outside}
+use Rattle.isolation.proofs.CleanStep.{clean-step, clean-outside}
 
 -- what two runs share that start with the same clean objects
 pub record Shared (t u : Table) (C : Clean) (ps qs : List Ask) : Type 0 where

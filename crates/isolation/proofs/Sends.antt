@@ -1,9 +1,9 @@
 -- Send, answered 0: the word, the copied pairs and the reply slot keep the invariant; from an actor that is not clean they leave
 -- every clean object as it was; from a clean actor they keep two agreeing tables in agreement. Assumes nothing.
 use mathlib.Core.Path.{_≡_, refl, sym, _∙_, ap}
-use mathlib.Core.Bool.{Bool, true, false, not, _||_}
+use mathlib.Core.Bool.{true, false, _||_}
 use mathlib.Core.List.{List}
-use Prim.Native.Nat.{ℕ, _≤_, _<_}
+use Prim.Native.Nat.{ℕ}
 use native.Mathlib.Omega.{arith}
 use lib.Dec.{ltb}
 use Rattle.mask.proofs.Tests.{clash, or-none}
@@ -20,7 +20,7 @@ use Rattle.effects.specs.Effects.{withWord, copyPairs, sent, effect}
 use Rattle.isolation.specs.Clean.{Clean}
 use Rattle.isolation.specs.Demand.{AgreeOn}
 use Rattle.isolation.proofs.Invariant.{Isolated, putRecord-isolated, agree-record-out, agree-trans, agree-record}
-use Rattle.isolation.proofs.Granted.{PastChecks, past-checks, Granted, granted, Ranged, ranged}
+use Rattle.isolation.proofs.Granted.{past-checks, Granted, granted, Ranged, ranged}
 use Rattle.isolation.proofs.Sides.{clean-target, same-side, weak-no-send, fits-word}
 use Rattle.isolation.proofs.Copies.{fits-moved, copies-record, copies-sized, copies-isolated, copies-out, copies-both, answer-isolated, answer-out, answer-both}
 

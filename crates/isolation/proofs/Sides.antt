@@ -1,7 +1,7 @@
 -- On which side of the clean objects a request's target stands, which records fit, and what a fetch brings. Assumes nothing.
-use mathlib.Core.Path.{_≡_, refl, sym, _∙_, ap}
+use mathlib.Core.Path.{_≡_, refl, sym, _∙_}
 use mathlib.Core.Logic.{_≢_}
-use mathlib.Core.Bool.{Bool, true, false, _||_, false≢true}
+use mathlib.Core.Bool.{true, false, false≢true}
 use Prim.Native.Nat.{ℕ, _≤_, _<_}
 use native.Mathlib.Omega.{arith}
 use Rattle.mask.specs.Sets.{has}
@@ -9,11 +9,11 @@ use Rattle.mask.proofs.Tests.{byCases, byEq, clash}
 use Rattle.table.specs.declared.Capability.{Capability}
 use Rattle.table.specs.declared.Record.{Record}
 use Rattle.table.specs.declared.Table.{Table}
-use Rattle.table.specs.Cells.{emptySlot, recordAt, slotAt, statusAt, stockAt, hasRd}
+use Rattle.table.specs.Cells.{emptySlot, recordAt, statusAt, stockAt, hasRd}
 use Rattle.table.proofs.SoundFacts.{Sound}
 use Rattle.refusals.specs.declared.Need.{Need}
 use Rattle.refusals.specs.declared.Need.the-variants.{ReadOrWeak, Write, Send}
-use Rattle.refusals.specs.Refusals.{needMet, targetOf, rightsOf}
+use Rattle.refusals.specs.Refusals.{needMet, targetOf}
 use Rattle.effects.specs.Effects.{weaken, fetched, withWord}
 use Rattle.isolation.specs.Clean.{Clean}
 use Rattle.isolation.proofs.Invariant.{wkAlone, Isolated, RecordFits}

@@ -1,15 +1,13 @@
 -- Read, write, fetch, store and revoke, answered 0: each keeps the invariant; from an actor that is not clean it leaves every
 -- clean object as it was; from a clean actor it keeps two agreeing tables in agreement. Assumes nothing.
-use mathlib.Core.Path.{_≡_, refl, sym, _∙_, ap}
-use mathlib.Core.Bool.{Bool, true, false, _||_}
-use Prim.Native.Nat.{ℕ, _≤_, _<_}
+use mathlib.Core.Path.{_≡_, refl, ap}
+use mathlib.Core.Bool.{true, false, _||_}
+use Prim.Native.Nat.{ℕ, _<_}
 use native.Mathlib.Omega.{arith}
 use Rattle.mask.proofs.Tests.{byCases, clash, or-none}
-use Rattle.table.specs.declared.Capability.{Capability}
 use Rattle.table.specs.declared.Table.{Table}
-use Rattle.table.specs.Cells.{recordAt, slotAt, hasRd}
+use Rattle.table.specs.Cells.{slotAt, hasRd}
 use Rattle.table.proofs.Cells.{Sized}
-use Rattle.refusals.specs.declared.Need.{Need}
 use Rattle.refusals.specs.declared.Need.the-variants.{ReadOrWeak, Write}
 use Rattle.refusals.specs.declared.Reply.the-variants.{Done}
 use Rattle.requests.specs.Asks.{read, write, fetch, store, revoke}
@@ -19,7 +17,7 @@ use Rattle.effects.specs.Effects.{fetched, effect}
 use Rattle.isolation.specs.Clean.{Clean}
 use Rattle.isolation.specs.Demand.{AgreeOn}
 use Rattle.isolation.proofs.Invariant.{Isolated, SlotFits, putSlot-isolated, putRecord-isolated, agree-record-out, agree-slot-out, agree-record, agree-slot}
-use Rattle.isolation.proofs.Granted.{PastChecks, past-checks, Granted, granted, slot-low}
+use Rattle.isolation.proofs.Granted.{past-checks, Granted, granted, slot-low}
 use Rattle.isolation.proofs.Sides.{clean-target, dirty-target, same-side, weak-no-write, fetched-elim, fits-word}
 use Rattle.isolation.proofs.Copies.{fits-empty, fits-moved, copy-isolated, copy-out, copy-both}
 

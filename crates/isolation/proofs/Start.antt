@@ -2,7 +2,7 @@
 -- isolated. A clean object holds nothing over a member (row 13) nor over the bound, or it would be in the bound itself; and what
 -- points at it from outside is wk alone, since rd, wr or tx from a member's listed capabilities or from the bound would bring it
 -- into the bound. Assumes nothing.
-use mathlib.Core.Path.{_≡_, refl, sym, _∙_, ap}
+use mathlib.Core.Path.{_≡_, refl, ap}
 use mathlib.Core.Logic.{_≢_}
 use mathlib.Core.Bool.{Bool, true, false, not, _&&_, _||_, false≢true}
 use mathlib.Core.List.{List}
@@ -11,20 +11,20 @@ use native.Mathlib.Omega.{arith}
 use lib.Dec.{ltb, eqb}
 use borrow.Author.Tests.{ltb-true, ltb-false, lt-ltb, eqb-true, eq-eqb, ne-eqb, not-true}
 use Rattle.mask.specs.Sets.{has, allBelow}
-use Rattle.mask.proofs.Tests.{byCases, byEq, clash, and-true, and-intro, or-cases}
+use Rattle.mask.proofs.Tests.{byCases, clash, and-true, and-intro, or-cases}
 use Rattle.mask.proofs.Below.{all-at, any-intro}
 use Rattle.table.specs.declared.Capability.{Capability}
 use Rattle.table.specs.declared.Record.{Record}
 use Rattle.table.specs.declared.Table.{Table}
-use Rattle.table.specs.Cells.{recordAt, slotAt, statusAt, bornAt, isBorn, isEmpty}
+use Rattle.table.specs.Cells.{recordAt, slotAt, statusAt, bornAt, isEmpty}
 use Rattle.table.proofs.Cells.{record-high}
 use Rattle.table.proofs.SoundFacts.{Sound, born-pos, pos-born}
-use Rattle.access.specs.Relation.{Right, rd, wr, wk, tx, bitAt, Holding, Can, holds, self, reads, writes, sends, Influences, by-wr, by-tx, by-rd, by-wk, Influenced, first, more, takesPart, holdsIn}
+use Rattle.access.specs.Relation.{Right, rd, wr, wk, tx, bitAt, Holding, Can, holds, self, reads, writes, sends, Influences, by-wr, by-tx, by-rd, by-wk, first, more, takesPart, holdsIn}
 use Rattle.access.proofs.Exact.{isStrong}
 use Rattle.confinement.specs.StandIn.{listed, standIn, testNode, testHeld, testHolding, boundOf}
 use Rattle.confinement.proofs.Bound.{bound-only, bound-all}
 use Rattle.confinement.proofs.TestFacts.{Facts}
-use Rattle.isolation.specs.Clean.{Clean, cleanAtStart}
+use Rattle.isolation.specs.Clean.{cleanAtStart}
 use Rattle.isolation.proofs.Invariant.{wkAlone, Isolated}
 
 -- rights 1 to 15 hold one of the four, and wk alone is 4: all sixteen are tried

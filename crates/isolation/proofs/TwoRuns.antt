@@ -16,19 +16,19 @@ use Rattle.mask.proofs.Tests.{byCases, and-true}
 use Rattle.table.specs.declared.Capability.{Capability}
 use Rattle.table.specs.declared.Record.{Record}
 use Rattle.table.specs.declared.Table.{Table}
-use Rattle.table.specs.Cells.{IsTable, recordAt, slotAt, bornAt, isBorn}
+use Rattle.table.specs.Cells.{IsTable, slotAt, bornAt, isBorn}
 use Rattle.table.proofs.Cells.{table-sized}
-use Rattle.table.proofs.SoundFacts.{Sound, sound-facts}
+use Rattle.table.proofs.SoundFacts.{sound-facts}
 use Rattle.access.specs.Relation.{takesPart}
 use Rattle.confinement.specs.StandIn.{boundOf}
 use Rattle.confinement.specs.Refusals.{verdictOf, verdictNumber}
 use Rattle.confinement.specs.Agreement.{AgreeOutside}
 use Rattle.confinement.proofs.Bound.{bound-same}
-use Rattle.confinement.proofs.TestFacts.{Facts, accepted-facts}
+use Rattle.confinement.proofs.TestFacts.{accepted-facts}
 use Rattle.requests.specs.Asks.{Ask}
 use Rattle.steps.specs.Steps.{runTable}
 use Rattle.isolation.specs.Clean.{Clean, cleanAtStart, cleanAtEnd, cleanRequests, cleanReplies}
-use Rattle.isolation.specs.Demand.{AgreeOn, Alike, BothAccepted, Same, TwoRuns}
+use Rattle.isolation.specs.Demand.{AgreeOn, Alike, TwoRuns}
 use Rattle.isolation.proofs.Invariant.{wkAlone, Isolated, agree-refl}
 use Rattle.isolation.proofs.Runs.{Shared, shadow, runs-alike, run-isolated}
 use Rattle.isolation.proofs.Start.{start-isolated}

@@ -3,20 +3,20 @@
 -- among them, are answered 0, and the member's requests change the table; and the theorem applied to them. Assumes nothing.
 use mathlib.Core.Path.{_≡_, refl, sym, _∙_, ap}
 use mathlib.Core.Logic.{_≢_}
-use mathlib.Core.Bool.{Bool, true, false, not, _&&_, _||_}
+use mathlib.Core.Bool.{Bool, true, false, _&&_}
 use mathlib.Core.List.{List, [], _∷_, _++_}
-use Prim.Native.Nat.{ℕ, _+_, _*_, _^_, _≤_, _<_}
+use Prim.Native.Nat.{ℕ, _+_, _^_}
 use native.Mathlib.Omega.{arith}
-use lib.Dec.{ltb, eqb}
+use lib.Dec.{ltb}
 use lib.ListN.{length, getD, replicate, List·getD-eq-default}
 use borrow.Author.Tests.{ltb-true, ltb-false}
 use Rattle.mask.specs.Sets.{has, bits, allBelow, anyBelow, lessOf, excluding, subsetOf}
-use Rattle.mask.proofs.Tests.{byCases, byEq, clash, and-true}
+use Rattle.mask.proofs.Tests.{byCases, clash, and-true}
 use Rattle.mask.proofs.Below.{all-at}
 use Rattle.table.specs.declared.Capability.{Capability}
 use Rattle.table.specs.declared.Record.{Record}
 use Rattle.table.specs.declared.Table.{Table}
-use Rattle.table.specs.Cells.{IsTable, emptySlot, unbornRecord, recordAt, slotAt, putRecord, putSlot}
+use Rattle.table.specs.Cells.{IsTable, emptySlot, unbornRecord, recordAt, putRecord, putSlot}
 use Rattle.table.specs.Soundness.{stockSound, soundAt, sound}
 use Rattle.table.proofs.Cells.{record-other, slot-other}
 use Rattle.access.specs.Relation.{takesPart, holdsIn}
@@ -24,13 +24,12 @@ use Rattle.access.specs.Closure.{grow, spread, only, reached, bothTakePart, hol
 use Rattle.confinement.specs.StandIn.{listed, lowestFrom, standIn, testNode, testHeld, boundOf}
 use Rattle.confinement.specs.Refusals.{verdictNumber, badMembers, badEntry, badList, allListed, badHeld, memberHeld, verdictOf}
 use Rattle.confinement.specs.Agreement.{AgreeOutside}
-use Rattle.refusals.specs.declared.Reply.{Reply}
 use Rattle.refusals.specs.declared.Reply.the-variants.{Done}
 use Rattle.requests.specs.Asks.{Ask, read, write, allocate}
 use Rattle.refusals.specs.Refusals as Rows
 use Rattle.effects.specs.Effects.{landed, copyPairs, stockLess, allocated, effect}
-use Rattle.steps.specs.Steps.{after, runTable}
-use Rattle.isolation.specs.Clean.{Clean, cleanAtStart, cleanAfter, cleanAtEnd, cleanRequests, cleanReplies}
+use Rattle.steps.specs.Steps.{after}
+use Rattle.isolation.specs.Clean.{Clean, cleanAtStart, cleanAfter, cleanRequests, cleanReplies}
 use Rattle.isolation.specs.Demand.{Alike, BothAccepted, TwoRuns}
 use Rattle.isolation.proofs.TwoRuns.{two-runs}
 

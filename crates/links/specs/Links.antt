@@ -1,11 +1,11 @@
 -- The links of a holding as 64 words, of which word x has the numbers one link from x: the words of a table's slots, and of one
 -- holder more. What walks on links, reach by rounds first, walks on these words.
-use mathlib.Core.Bool.{Bool, true, false, _&&_, _||_}
+use mathlib.Core.Bool.{Bool, _&&_, _||_}
 use mathlib.Core.List.{List}
 use Prim.Native.Nat.{ℕ, _+_, _*_}
 use lib.Dec.{eqb}
-use lib.ListN.{getD, set}
-use Rattle.mask.specs.Sets.{has, bits, anyBelow, including}
+use lib.ListN.{getD}
+use Rattle.mask.specs.Sets.{has, bits, anyBelow}
 use Rattle.table.specs.declared.Capability.{Capability}
 use Rattle.table.specs.Lists.{tabulate}
 use Rattle.table.specs.Cells.{slotOf, hasRd, hasWr, hasWk, hasTx}

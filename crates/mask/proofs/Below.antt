@@ -1,7 +1,7 @@
 -- "Every number below n" and "some number below n" as tests, and what they say. Assumes nothing.
 use mathlib.Core.Path.{_≡_, refl, sym, _∙_}
-use mathlib.Core.Bool.{Bool, true, false, not, _&&_, _||_, false≢true}
-use Prim.Native.Nat.{ℕ, zero, suc, _+_, _≤_, _<_}
+use mathlib.Core.Bool.{Bool, true, false, _||_, false≢true}
+use Prim.Native.Nat.{ℕ, zero, suc, _+_, _<_}
 use native.Mathlib.Omega.{arith}
 use Rattle.mask.specs.Sets.{allBelow, anyBelow}
 use Rattle.mask.proofs.Tests.{byCases, byEq, clash, bool-ext, or-right, or-false}

@@ -1,7 +1,6 @@
 -- A set by its members: what `bits` has, and that two sets with the same members are one number.
 -- Laws over the bit number and the width. Assumes nothing.
 use mathlib.Core.Path.{_≡_, refl, sym, _∙_, ap}
-use mathlib.Core.Logic.{_≢_}
 use mathlib.Core.Bool.{Bool, true, false, not, _&&_, _||_}
 use Prim.Native.Nat.{ℕ, zero, suc, _+_, _*_, _/_, _%_, _^_, _≤_, _<_}
 use native.Mathlib.Nat.{div-div-eq-div-mul, pow-succ', mod-lt, div-eq-of-lt, lt-of-lt-of-le}
@@ -10,7 +9,7 @@ use lib.Dec.{eqb}
 use lib.Pow.{pow-mono}
 use borrow.Author.Tests.{eqb-true, eqb-false, eq-eqb, not-true}
 use Rattle.mask.specs.Sets.{has, bits, bitOf, allBelow, including, excluding, unionOf, lessOf, subsetOf, disjointOf}
-use Rattle.mask.proofs.Tests.{byCases, byEq, bool-ext, imply-use, apart-use}
+use Rattle.mask.proofs.Tests.{byCases, bool-ext, imply-use, apart-use}
 use Rattle.mask.proofs.Below.{all-at, all-intro}
 
 -- one digit further up

@@ -3,11 +3,11 @@
 use mathlib.Core.Path.{_≡_, refl, sym, _∙_, ap}
 use mathlib.Core.Logic.{_≢_}
 use mathlib.Core.Bool.{Bool, true, false, _&&_, _||_}
-use Prim.Native.Nat.{ℕ, _+_, _≤_, _<_}
+use Prim.Native.Nat.{ℕ, _+_, _≤_}
 use native.Mathlib.Omega.{arith}
 use lib.Dec.{ltb, eqb}
 use borrow.Author.Tests.{ltb-true, lt-ltb, le-ltb, eq-eqb, ne-eqb}
-use Rattle.mask.specs.Sets.{has, bits, including}
+use Rattle.mask.specs.Sets.{bits, including}
 use Rattle.mask.proofs.Tests.{byEq, bool-ext, and-intro, and-false, or-false, or-right}
 use Rattle.mask.proofs.Bits.{has-bits, as-bits, bits-same, has-zero}
 

@@ -1,14 +1,14 @@
 -- The operators on 64-bit words are the sets of the contracts: `&`, `|`, `!`, shifts, linked here to the test of one bit
 -- and nowhere else. Assumes nothing.
 use mathlib.Core.Path.{_≡_, refl, sym, _∙_, ap}
-use mathlib.Core.Bool.{Bool, true, false, not, _&&_, _||_}
-use Prim.Native.Nat.{ℕ, zero, suc, _-_, _*_, _/_, _%_, _^_, _≤_, _<_}
+use mathlib.Core.Bool.{Bool, true, not, _&&_, _||_}
+use Prim.Native.Nat.{ℕ, zero, suc, _-_, _*_, _/_, _%_, _^_, _<_}
 use native.Mathlib.Nat.{mod-lt, mod-eq-of-lt}
 use native.Mathlib.Omega.{arith}
 use lib.Dec.{ltb, eqb}
 use lib.Bits.{bitAnd, bitOr, bitXor, and-shr, or-shr, xor-shr, and-mod, or-mod, xor-mod, and-lt, or-lt, and-mask, mask-lt, xor-add-and}
 use borrow.Author.Tests.{ltb-true, ltb-false, eqb-true}
-use Rattle.mask.specs.Sets.{has, bits, allBelow, including, excluding, unionOf, lessOf, subsetOf, disjointOf}
+use Rattle.mask.specs.Sets.{has, allBelow, including, excluding, unionOf, lessOf, subsetOf, disjointOf}
 use Rattle.mask.proofs.Tests.{byCases, same, same-eq, not-less}
 use Rattle.mask.proofs.Below.{all-at, all-ext}
 use Rattle.mask.proofs.Bits.{as-bits, is-empty, has-high}

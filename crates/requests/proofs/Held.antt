@@ -1,7 +1,7 @@
 -- The code's two values for a request are that request, where its list has at most 4 pairs: `held-ask`. By the request. Assumes nothing.
 use mathlib.Core.Path.{_≡_, refl, ap}
 use mathlib.Core.List.{List}
-use Prim.Native.Nat.{ℕ, _≤_}
+use Prim.Native.Nat.{_≤_}
 use lib.ListN.{length}
 use Rattle.table.proofs.Lists.{padded-all}
 use Rattle.requests.specs.declared.Pair.{Pair}

@@ -2,11 +2,9 @@
 -- tables that were lent or read from images. A run of the calls ends with the table of the definition's run and gave the numbers of its
 -- replies, so the two-run theorem covers it: the clean objects, their records and slots in the tables that are there at the end, and the
 -- numbers that came back. That each is a table comes from owning it or from the image's bytes. Assumes nothing.
-use mathlib.Core.Path.{_≡_, refl, sym, _∙_, ap, ap₂, subst}
-use mathlib.Core.Bool.{true, false}
+use mathlib.Core.Path.{_≡_, refl, sym, _∙_, ap, ap₂}
 use mathlib.Core.List.{List, [], _∷_}
 use Prim.Native.Nat.{ℕ}
-use lib.Dec.{eqb}
 use borrow.Author.Tests.{eq-eqb, eqb-true}
 use Rattle.mask.proofs.Tests.{byCases}
 use Rattle.table.specs.declared.Capability.{Capability}
@@ -17,21 +15,17 @@ use Rattle.requests.specs.Asks.{Ask, actorOf}
 use Rattle.refusals.specs.declared.Reply.{Reply}
 use Rattle.refusals.specs.Replies.{number}
 use Rattle.refusals.specs.Refusals.{refusal}
-use Rattle.steps.specs.declared.Stepped.{Stepped}
 use Rattle.steps.specs.Steps.{after, stepOf, runTable, runReplies}
 use Rattle.confinement.specs.StandIn.{boundOf}
 use Rattle.confinement.specs.Refusals.{verdictOf, verdictNumber}
 use Rattle.confinement.specs.Tests.{isAccepted, testOf}
-use Rattle.confinement.specs.declared.Tested.{Tested}
 use Rattle.image.proofs.Typed.{read-is-table}
-use Rattle.wire.specs.Wires.{askFrom}
 use Rattle.wire.specs.Entries.{entriesIn}
-use Rattle.isolation.specs.Clean.{Clean, cleanAtStart, cleanAfter, cleanAtEnd, cleanReplies}
-use Rattle.isolation.specs.Demand.{AgreeOn, BothAccepted, TwoRuns}
+use Rattle.isolation.specs.Clean.{Clean, cleanAtStart, cleanAfter, cleanReplies}
+use Rattle.isolation.specs.Demand.{BothAccepted, TwoRuns}
 use Rattle.isolation.proofs.TwoRuns.{two-runs}
 use Rattle.captable.specs.declared.Outcome.{Outcome}
-use Rattle.captable.specs.Crossing.{stepped}
-use Rattle.runs.specs.Runs.{Had, owned, read, Taken, none, by-value, lent, asksOf, cleanNumbers, BothTested, AlikeTaken, SameTaken, TwoRunsTaken}
+use Rattle.runs.specs.Runs.{Had, owned, read, Taken, none, by-value, lent, asksOf, cleanNumbers, BothTested, TwoRunsTaken}
 
 -- a table that the firmware has is one --------------------------------------------------
 pub had-table : {t : Table} → Had t → IsTable t

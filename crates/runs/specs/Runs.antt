@@ -1,7 +1,7 @@
 -- Document 01, "Two runs", for what the firmware does: tables that it was lent or read from images, requests as the bytes that it hands in,
 -- and the numbers that came back. "each step may be taken in either form": a run may mix the two in any way.
 use mathlib.Core.Path.{_≡_}
-use mathlib.Core.Bool.{Bool, true, false}
+use mathlib.Core.Bool.{true, false}
 use mathlib.Core.List.{List, [], _∷_}
 use Prim.Native.Nat.{ℕ}
 use mir.Val.{Val}
@@ -21,7 +21,6 @@ use Rattle.wire.specs.Entries.{entriesIn}
 use Rattle.isolation.specs.Clean.{Clean, cleanAtStart, cleanAfter, cleanAtEnd, cleanRequests}
 use Rattle.isolation.specs.Demand.{AgreeOn}
 use Rattle.captable.specs.declared.Outcome.{Outcome}
-use Rattle.captable.specs.declared.Finding.{Finding}
 use Rattle.captable.specs.Crossing.{stepped, loaded, found}
 
 -- a table that the firmware has

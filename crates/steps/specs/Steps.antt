@@ -1,6 +1,6 @@
 -- A step is a refusal and an effect; a run is a start table and a list of requests: "The first request gets the start table,
 -- each later one the table that the one before it returned or left; a refused one leaves it as it was."
-use mathlib.Core.Bool.{Bool, true, false}
+use mathlib.Core.Bool.{true, false}
 use mathlib.Core.List.{List, [], _∷_}
 use Rattle.table.specs.declared.Table.{Table}
 use Rattle.refusals.specs.declared.Reply.{Reply}

@@ -1,24 +1,23 @@
 -- The scan finds what soundness says. It goes by two sets: the born numbers, and those that no further stock may have. A stock
 -- that shares no number with the second, at each record in turn, is the clause on stocks. Assumes nothing.
 use mathlib.Core.Path.{_≡_, refl, sym, _∙_, ap, ap₂}
-use mathlib.Core.Logic.{_≢_}
-use mathlib.Core.Bool.{Bool, true, false, not, _&&_, _||_}
+use mathlib.Core.Bool.{Bool, true, false, _&&_, _||_}
 use Prim.Native.Nat.{ℕ, zero, suc, _+_, _≤_, _<_}
 use native.Mathlib.Omega.{arith}
 use native.Mathlib.Numerals.{add-one}
-use lib.Dec.{leb, ltb, eqb}
+use lib.Dec.{ltb}
 use lib.ListN.{length, List·getD-eq-default}
-use borrow.Author.Tests.{ltb-true, ltb-false, lt-ltb, le-ltb, eqb-true, eq-eqb, ne-eqb}
-use Rattle.mask.specs.Sets.{has, bits, allBelow, unionOf, including, disjointOf}
-use Rattle.mask.proofs.Tests.{byCases, byEq, clash, bool-ext, and-true, and-intro, and-false, or-none, or-false, or-right, apart-use, apart-intro}
+use borrow.Author.Tests.{ltb-true, ltb-false}
+use Rattle.mask.specs.Sets.{has, bits, allBelow, unionOf, disjointOf}
+use Rattle.mask.proofs.Tests.{byCases, byEq, clash, bool-ext, and-true, and-intro, and-false, or-none, apart-intro}
 use Rattle.mask.proofs.Below.{all-at, all-intro, all-more, all-fails}
 use Rattle.mask.proofs.UpTo.{upTo, up-all}
-use Rattle.mask.proofs.Bits.{bits-same, has-bits, bits-lt, as-bits, has-including, has-union, has-high, has-zero, disjoint-at}
+use Rattle.mask.proofs.Bits.{has-bits, bits-lt, has-union, has-high, disjoint-at}
 use Rattle.table.specs.declared.Record.{Record}
 use Rattle.table.specs.declared.Table.{Table}
-use Rattle.table.specs.Cells.{recordAt, slotAt, statusAt, stockAt, unbornRecord, isBorn, bornAt}
+use Rattle.table.specs.Cells.{recordAt, slotAt, stockAt, unbornRecord, isBorn, bornAt}
 use Rattle.table.specs.Soundness.{recordSound, idleSlotSound, filledSound, slotSound, stockSound, soundAt, sound}
-use Rattle.table.proofs.SoundFacts.{RecordFine, record-fine, born-pos, pos-born, SoundAt, sound-at, at-sound, fine-stock, stock-fine}
+use Rattle.table.proofs.SoundFacts.{record-fine, born-pos, pos-born, sound-at, at-sound, fine-stock, stock-fine}
 
 -- the born numbers -----------------------------------------------------------------------
 unfoldable pub bornSet : Table → ℕ

@@ -1,12 +1,12 @@
 -- Soundness as facts about every number, and that they are exactly the test of specs/Soundness.antt. Proofs about steps use the
 -- facts; contracts use the test. Assumes nothing.
-use mathlib.Core.Path.{_≡_, refl, sym, _∙_, ap, subst}
+use mathlib.Core.Path.{_≡_, refl, sym, _∙_, ap}
 use mathlib.Core.Logic.{_≢_}
-use mathlib.Core.Bool.{Bool, true, false, not, _&&_, _||_}
+use mathlib.Core.Bool.{true, false, not, _&&_}
 use Prim.Native.Nat.{ℕ, _≤_, _<_}
 use native.Mathlib.Omega.{arith}
 use lib.Dec.{leb, ltb, eqb}
-use borrow.Author.Tests.{ltb-true, ltb-false, leb-true, eqb-true, eqb-false, le-leb, eq-eqb, ne-eqb, not-true, not-false}
+use borrow.Author.Tests.{ltb-true, ltb-false, leb-true, eqb-true, le-leb, eq-eqb, not-true, not-false}
 use Rattle.mask.specs.Sets.{has, allBelow}
 use Rattle.mask.proofs.Tests.{byCases, byEq, clash, bool-ext, and-true, and-intro, or-cases, or-left, or-right, imply-intro, imply-use}
 use Rattle.mask.proofs.Below.{all-at, all-intro}
@@ -14,7 +14,7 @@ use Rattle.mask.proofs.Bits.{has-zero}
 use Rattle.table.specs.declared.Capability.{Capability}
 use Rattle.table.specs.declared.Record.{Record}
 use Rattle.table.specs.declared.Table.{Table}
-use Rattle.table.specs.Cells.{recordAt, slotAt, statusAt, stockAt, emptySlot, unbornRecord, isAlive, isDead, isUnborn, isBorn, bornAt, isEmpty}
+use Rattle.table.specs.Cells.{recordAt, slotAt, statusAt, stockAt, emptySlot, isAlive, isDead, isUnborn, isBorn, isEmpty}
 use Rattle.table.specs.Soundness.{valuesSound, unbornSound, idleSound, idleSlotSound, recordSound, filledSound, slotSound, stockSound, soundAt, sound}
 use Rattle.table.proofs.Cells.{Sized, record-high, slot-high}
 

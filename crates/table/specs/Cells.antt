@@ -2,7 +2,7 @@
 -- Objects are numbered 0 to 63, slots 0 to 7. An object number past the end reads as unborn, with empty slots; no definition
 -- reads or puts a slot above 7 but after the check that refuses it.
 use mathlib.Core.Path.{_≡_}
-use mathlib.Core.Bool.{Bool, not, _&&_, _||_}
+use mathlib.Core.Bool.{Bool, _&&_, _||_}
 use mathlib.Core.List.{List}
 use Prim.Native.Nat.{ℕ, _+_, _*_, _^_, _<_}
 use lib.Dec.{eqb}

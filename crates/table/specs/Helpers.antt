@@ -1,13 +1,12 @@
 -- What helpers of the scan promise: its glance over the eight slots of a record, before it tests them one by one: what it notes of
 -- them, and when that is enough to pass them all.
-use mathlib.Core.Bool.{Bool, true, false, not, _&&_, _||_}
-use Prim.Native.Nat.{ℕ, zero, suc, _%_}
+use mathlib.Core.Bool.{Bool, not, _&&_, _||_}
+use Prim.Native.Nat.{ℕ, _%_}
 use lib.Dec.{leb, eqb}
 use Rattle.mask.specs.Sets.{including, subsetOf}
 use Rattle.table.specs.declared.Glance.{Glance}
 use Rattle.table.specs.declared.Record.{Record}
-use Rattle.table.specs.declared.Table.{Table}
-use Rattle.table.specs.Cells.{slotAt, isAlive}
+use Rattle.table.specs.Cells.{isAlive}
 
 -- a slot that is right in no table: a target above 63, rights above 15, or a target with no rights
 abbrev pub oddSlot : ℕ → ℕ → Bool

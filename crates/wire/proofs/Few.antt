@@ -1,14 +1,13 @@
 -- The request that bytes are has at most 4 pairs, so the code's two values for it are that request: `asked-ask`. By the code. Assumes
 -- nothing.
-use mathlib.Core.Path.{_≡_, refl, sym, _∙_, ap}
-use mathlib.Core.Bool.{true, false}
-use mathlib.Core.List.{List, []}
+use mathlib.Core.Path.{_≡_, refl, sym, ap}
+use mathlib.Core.Bool.{true}
+use mathlib.Core.List.{List}
 use Prim.Native.Nat.{ℕ, _≤_}
 use native.Mathlib.Omega.{arith}
 use lib.ListN.{length}
 use Rattle.mask.proofs.Tests.{byCases, byEq}
-use Rattle.requests.specs.declared.Pair.{Pair}
-use Rattle.requests.specs.Asks.{Ask, pairsIn, askOf}
+use Rattle.requests.specs.Asks.{pairsIn, askOf}
 use Rattle.requests.proofs.Held.{held-ask}
 use Rattle.wire.specs.Wires.{codeIn, countIn, fitsOf, listIn, fieldsOf, askFrom, askedOf}
 use Rattle.wire.proofs.Sizes.{send-count, allocate-count}

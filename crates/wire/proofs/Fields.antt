@@ -13,7 +13,7 @@ use Rattle.requests.specs.declared.Pair.{Pair}
 use Rattle.requests.specs.declared.PairList.{PairList}
 use Rattle.requests.specs.declared.Request.{Request}
 use Rattle.requests.specs.declared.Request.the-variants.{Send, Allocate, Unknown}
-use Rattle.requests.specs.Asks.{Ask, read, write, fetch, store, revoke, send, allocate, destroy, unknown, pairsIn, noPair, requestOf, heldPairs}
+use Rattle.requests.specs.Asks.{read, write, fetch, store, revoke, send, allocate, destroy, unknown, pairsIn, noPair, requestOf, heldPairs}
 use Rattle.octets.specs.BigEndian.{byteAt}
 use Rattle.octets.proofs.Lists.{getD-within}
 use Rattle.wire.specs.declared.Asked.{Asked}

@@ -1,13 +1,13 @@
 -- The entries of a test as the code holds them: by whether a byte is left over and how many there are; and that the test answers the list
 -- that is held as it answers the list of the bytes. A longer one is held by its count alone: rows 1 and 10 ask nothing of the list, and row
 -- 11 refuses every list that is too long. Assumes nothing.
-use mathlib.Core.Path.{_≡_, refl, sym, _∙_, ap, ap₂}
+use mathlib.Core.Path.{_≡_, refl, sym, _∙_, ap}
 use mathlib.Core.Logic.{_≢_}
-use mathlib.Core.Bool.{true, false, _&&_}
+use mathlib.Core.Bool.{true}
 use mathlib.Core.List.{List}
 use Prim.Native.Nat.{ℕ, _/_, _%_, _≤_, _<_}
 use native.Mathlib.Omega.{arith}
-use lib.Dec.{ltb, leb, eqb}
+use lib.Dec.{leb}
 use lib.ListN.{length, getD, replicate}
 use borrow.Author.Tests.{eq-eqb, ne-eqb, le-leb, lt-leb, leb-true, leb-false}
 use Rattle.mask.proofs.Tests.{byCases, byEq}
@@ -25,7 +25,7 @@ use Rattle.confinement.specs.Refusals.{badMembers}
 use Rattle.confinement.specs.Tests.{testOf}
 use Rattle.confinement.proofs.Scans.{list-long}
 use Rattle.confinement.proofs.Verdicts.{test-1, test-10, test-11}
-use Rattle.wire.specs.Entries.{entryIn, areWhole, entriesIn, heldEntries}
+use Rattle.wire.specs.Entries.{entryIn, entriesIn, heldEntries}
 
 abbrev tooLong : EntryList
 tooLong = record { count = 9; entries = replicate 8 emptySlot }

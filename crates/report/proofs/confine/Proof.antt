@@ -1,5 +1,5 @@
 -- `confine` meets its contract: what is decided has a number of two digits at most, and is printed. Assumes nothing.
-use mathlib.Core.Path.{_≡_, sym, ap}
+use mathlib.Core.Path.{ap}
 use native.Mathlib.Omega.{arith}
 use Rattle.report.specs.declared.Decision.{Decision}
 use Rattle.report.proofs.Answers.{decision-small}

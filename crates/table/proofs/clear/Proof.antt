@@ -1,6 +1,6 @@
 -- `clear` is the definition: where a slot is filled it asks that the record is alive, no slot is odd and every target is born.
 -- Assumes nothing.
-use mathlib.Core.Path.{_≡_, _∙_, ap}
+use mathlib.Core.Path.{_∙_, ap}
 use mathlib.Core.Bool.{Bool, not, _&&_}
 use Rattle.table.specs.Cells.{isAlive}
 use Rattle.table.proofs.Glances.{else-asked}

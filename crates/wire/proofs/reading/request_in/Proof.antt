@@ -1,8 +1,8 @@
 -- `request_in` meets its contract: bytes that do not fit have no fields, and each code that fits has its reader. Assumes nothing.
-use mathlib.Core.Path.{_≡_, sym, _∙_, ap}
+use mathlib.Core.Path.{sym, _∙_, ap}
 use native.Mathlib.Omega.{arith}
 use borrow.Author.Tests.{not-true, not-false}
-use Rattle.wire.specs.Wires.{codeIn, askedOf}
+use Rattle.wire.specs.Wires.{askedOf}
 use Rattle.wire.proofs.Fields.{ask-fit, asked-alone, asked-unfit}
 use borrow.Author.Needs.{needs}
 use Rattle.wire.proofs.reading.request_in.Statement.{statement}

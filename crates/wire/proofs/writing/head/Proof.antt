@@ -3,8 +3,6 @@ use Rattle.table.specs.Lists.{tabulate, padded}
 use borrow.Author.Needs.{needs}
 use Rattle.wire.proofs.writing.head.Statement.{statement}
 use Rattle.wire.proofs.writing.head.Tie as tie
-use Rattle.wire.proofs.writing.head.Reads as reads
-use Rattle.wire.proofs.writing.head.Lts as lts
 
 -- src/writing.rt:19:5
 array-write-bytes : tie.Need-array-write-bytes

@@ -3,8 +3,6 @@ use Rattle.table.specs.Lists.{tabulate, padded}
 use Rattle.wire.specs.Written.{heldBytes}
 use Rattle.wire.proofs.writing.nothing.Statement.{statement}
 use Rattle.wire.proofs.writing.nothing.Tie as tie
-use Rattle.wire.proofs.writing.nothing.Reads as reads
-use Rattle.wire.proofs.writing.nothing.Lts as lts
 
 -- src/writing.rt:53:1
 returns : tie.Need-returns
