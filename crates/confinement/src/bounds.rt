@@ -1,5 +1,5 @@
 // The bound, document 01: the non-members that the stand-in influences. The stand-in sits at the lowest member's number and holds
-// exactly the list; no byte of a member is read.
+// exactly the list; no byte of a member enters it.
 use crate::EntryList;
 use table::Table;
 ghost use mathlib.Core.Path.{_≡_};
