@@ -1,5 +1,5 @@
--- The request of any bytes, by their code: what holds of each code's request holds of the request of the bytes. By the nine tests of the
--- definition in turn. Assumes nothing.
+-- The request of any bytes, by their code: what holds of each code's request holds of the request of the bytes. By the
+-- definition's eight tests in turn. Assumes nothing.
 use mathlib.Core.Path.{_≡_, refl}
 use mathlib.Core.Bool.{Bool, true, false, cond}
 use mathlib.Core.List.{List}

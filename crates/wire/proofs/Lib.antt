@@ -4,6 +4,7 @@ pub mod Fields
 pub mod Lists
 pub mod Few
 pub mod Pairs
+pub mod Zeros
 pub mod Writes
 pub mod Cases
 pub mod ReadBack

@@ -1,20 +1,19 @@
--- Pairs as bytes, two to a pair: how many they are, one more pair at the end, and a list that a loop writes into zeros. A pair that was
--- written is read back, and what was read is written back. By the pairs, one by one. Assumes nothing.
+-- Pairs as bytes, two to a pair: how many they are, and one more at the end. Pairs that were written are read back from where they stand,
+-- and pairs that were read are written back. By the pairs, one by one. Assumes nothing.
 use mathlib.Core.Path.{_≡_, refl, sym, _∙_, ap, ap₂}
-use mathlib.Core.List.{List, [], _∷_, _++_, append-assoc}
+use mathlib.Core.List.{List, [], _∷_, _++_}
 use Prim.Native.Nat.{ℕ, zero, suc, _+_, _*_, _^_, _≤_, _<_}
-use native.Mathlib.Numerals.{add-one}
 use native.Mathlib.Omega.{arith}
-use lib.ListN.{length, getD, set, take, drop, length-append, length-drop}
-use lib.Seq.{getD-drop, take-set-le, length-take-le}
-use Rattle.table.specs.Lists.{tabulate, padded}
-use Rattle.table.proofs.Lists.{length-tabulate, tabulate-snoc, padded-push}
+use lib.ListN.{length, getD, take, drop, length-drop}
+use lib.Seq.{getD-drop}
+use Rattle.table.specs.Lists.{tabulate}
+use Rattle.table.proofs.Lists.{length-tabulate, tabulate-snoc}
 use Rattle.octets.specs.BigEndian.{byteAt}
 use Rattle.octets.proofs.Lists.{tabulate-is, take-pair}
 use Rattle.requests.specs.declared.Pair.{Pair}
 use Rattle.requests.specs.declared.PairList.{PairList}
 use Rattle.requests.specs.Asks.{PairsInBits, noPair, pairAt, pairsOf}
-use Rattle.wire.specs.Written.{pairBytes, listBytes}
+use Rattle.wire.specs.Written.{pairBytes}
 
 pub length-pairs : (ps : List Pair) → length (pairBytes ps) ≡ 2 * length ps
 unfolding pairBytes
@@ -52,12 +51,14 @@ pair-read (p ∷ ps) rest (suc k) h =
     let f : 2 * suc k + 1 ≡ suc (suc (2 * k + 1)) = omega arith in
     rw (f, e) (pair-read ps rest k (omega arith))
 
-pub pairs-read : (bs : List ℕ) (place : ℕ) (ps : List Pair) (rest : List ℕ) → drop (place + 1) bs ≡ pairBytes ps ++ rest → tabulate (length ps) (pairFrom bs place) ≡ ps
+pub pairs-read : (bs : List ℕ) (place : ℕ) (ps : List Pair) (rest : List ℕ) → drop (place + 1) bs ≡ pairBytes ps ++ rest
+    → tabulate (length ps) (pairFrom bs place) ≡ ps
 pairs-read bs place ps rest e = tabulate-is (length ps) (pairFrom bs place) noPair ps refl
     (λ k h. pair-after bs place k ∙ (rw e (pair-read ps rest k h)))
 
 -- pairs that were read
-pub pairs-back : (bs : List ℕ) (place n : ℕ) → place + 1 + 2 * n ≤ length bs → pairBytes (tabulate n (pairFrom bs place)) ≡ take (2 * n) (drop (place + 1) bs)
+pub pairs-back : (bs : List ℕ) (place n : ℕ) → place + 1 + 2 * n ≤ length bs
+    → pairBytes (tabulate n (pairFrom bs place)) ≡ take (2 * n) (drop (place + 1) bs)
 unfolding pairBytes tabulate
 pairs-back bs place zero h = refl
 pairs-back bs place (suc n) h =
@@ -66,7 +67,7 @@ pairs-back bs place (suc n) h =
     ∙ ap₂ (λ (l : List ℕ) (p : Pair). l ++ (p .from ∷ p .to ∷ [])) (pairs-back bs place n (omega arith)) (pair-after bs place n)
     ∙ sym (take-pair xs n 0 (omega (arith, length-drop (place + 1) bs)))
 
--- every pair of bytes is within its bits
+-- pairs of bytes are within their bits
 pub pairs-in-bits : (n : ℕ) (f : ℕ → Pair) → ((k : ℕ) → (f k .from < 2 ^ 8) × (f k .to < 2 ^ 8)) → PairsInBits (tabulate n f)
 unfolding tabulate
 pairs-in-bits zero f h = tt
@@ -76,39 +77,3 @@ pairs-in-bits (suc n) f h = (h 0 .0, h 0 .1, pairs-in-bits n (λ k. f (suc k)) (
 pub length-held : (list : PairList) → length (pairsOf list) ≡ list .count
 unfolding pairsOf
 length-held list = length-tabulate (list .count) (pairAt list)
-
--- writing into zeros -----------------------------------------------------------------------
--- the next byte
-pub zeros-push : (size : ℕ) (xs l : List ℕ) (i a : ℕ) → length xs ≡ i → i < size → l ≡ padded size 0 xs → set l i a ≡ padded size 0 (xs ++ (a ∷ []))
-zeros-push size xs l i a e h f = rw (f, ← e) (padded-push size 0 xs a (omega arith))
-
--- the count of a list and its first k pairs, behind what stands before its place
-abbrev pub listTo : List ℕ → ℕ → PairList → ℕ → List ℕ
-listTo before place list k = padded 22 0 (take place before ++ (list .count ∷ pairBytes (tabulate k (pairAt list))))
-
--- the loop that writes them: the count, one more pair, all
-module _ (list : PairList) (place : ℕ) (room : place ≤ 13) (before : List ℕ) (long : length before ≡ 22) where
-  length-before : length (take place before) ≡ place
-  length-before = length-take-le place before (omega arith)
-
-  pub list-none : before ≡ padded 22 0 (take place before) → set before place (list .count) ≡ listTo (set before place (list .count)) place list 0
-  unfolding pairBytes tabulate
-  list-none e = rw (take-set-le place before place (list .count) (omega arith)) (zeros-push 22 _ before place (list .count) length-before (omega arith) e)
-
-  pub list-more : (l : List ℕ) (k : ℕ) → k < 4 → l ≡ listTo before place list k
-      → set (set l (place + 1 + 2 * k) (pairAt list k .from)) (place + 2 + 2 * k) (pairAt list k .to) ≡ listTo before place list (k + 1)
-  list-more l k h e =
-      let p = take place before in
-      let ps = pairBytes (tabulate k (pairAt list)) in
-      let xs = p ++ (list .count ∷ ps) in
-      let a = pairAt list k .from in
-      let b = pairAt list k .to in
-      let z : length xs ≡ place + 1 + 2 * k = omega (arith, length-append p (list .count ∷ ps), length-pairs (tabulate k (pairAt list)), length-tabulate k (pairAt list), length-before) in
-      zeros-push 22 (xs ++ (a ∷ [])) _ (place + 2 + 2 * k) b (omega (arith, length-append xs (a ∷ []))) (omega arith)
-      (zeros-push 22 xs l (place + 1 + 2 * k) a z (omega arith) e)
-      ∙ ap (padded 22 0) (append-assoc xs (a ∷ []) (b ∷ []) ∙ append-assoc p (list .count ∷ ps) (a ∷ b ∷ [])
-      ∙ ap (λ (r : List ℕ). p ++ (list .count ∷ r)) (sym (pairs-next (pairAt list) k) ∙ (rw add-one refl)))
-
-  pub list-all : (l : List ℕ) (k : ℕ) → k ≡ list .count → l ≡ listTo (set before place (list .count)) place list k → l ≡ padded 22 0 (take place before ++ listBytes (pairsOf list))
-  unfolding pairsOf
-  list-all l k h e = e ∙ (rw (h, take-set-le place before place (list .count) (omega arith), length-held list) refl)

@@ -1,5 +1,5 @@
--- Reading what was written, where it does not just compute: a code with no request takes two bytes, as no request does; a request with a list
--- has its size by the list, and its pairs by `pairs-read`. Assumes nothing.
+-- Reading what was written, where it does not just compute. A code with no request takes two bytes, as no request does; a request with a
+-- list is as long as its code and its count say, and its pairs are read back by `pairs-read`. Assumes nothing.
 use mathlib.Core.Path.{_≡_, refl, sym, _∙_, ap}
 use mathlib.Core.Logic.{_≢_}
 use mathlib.Core.Bool.{true, _||_}

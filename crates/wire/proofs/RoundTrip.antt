@@ -15,11 +15,8 @@ use native.Mathlib.Nat.{lt-of-lt-of-le, pow-le-pow-right}
 use native.Mathlib.Omega.{arith}
 use lib.Dec.{ltb}
 use lib.ListN.{length, take, drop, length-append, length-take}
-use lib.Seq.{getD-take, length-take-le}
 use borrow.Author.Tests.{ltb-true, ltb-false}
 use Rattle.mask.proofs.Tests.{byCases}
-use Rattle.table.specs.Lists.{padded}
-use Rattle.table.proofs.Lists.{as-tabulate, length-padded, padded-all}
 use Rattle.octets.specs.BigEndian.{byteAt, bytesOf, numberOf}
 use Rattle.octets.proofs.BigEndian.{Bytes, number-lt, number-written}
 use Rattle.octets.proofs.Parts.{bytes-drop, bytes-take}
@@ -29,21 +26,24 @@ use Rattle.wire.specs.Wires.{codeIn, actorIn, countIn, sizeOf, listFits,
 use Rattle.wire.specs.Written.{pairBytes, fieldBytes, requestBytes, heldBytes, writtenOf}
 use Rattle.wire.proofs.Fields.{actor-there, actor-missing, ask-fit}
 use Rattle.wire.proofs.Pairs.{length-pairs, pairs-in-bits}
+use Rattle.wire.proofs.Zeros.{zeros-front}
 use Rattle.wire.proofs.Writes.{written-short}
 use Rattle.wire.proofs.Cases.{by-cond, by-code}
 use Rattle.wire.proofs.ReadBack.{unknown-written, send-written, allocate-written}
 use Rattle.wire.proofs.WriteBack.{fields-back}
 
 -- fields within their bits -------------------------------------------------------------------
-number-within : (k : ℕ) (bs : List ℕ) → length bs ≤ k → Bytes bs → numberOf bs < 256 ^ k
-number-within k bs h b = lt-of-lt-of-le (number-lt bs b) (pow-le-pow-right {n = 256} (omega arith) {i = length bs} {j = k} h)
-
 module _ (bs : List ℕ) (b : Bytes bs) where
   number-in-bits : (m n : ℕ) → numberOf (take n (drop m bs)) < 256 ^ n
-  number-in-bits m n = number-within n (take n (drop m bs)) (omega (arith, length-take n (drop m bs))) (bytes-take n (drop m bs) (bytes-drop m bs b))
+  number-in-bits m n =
+      let xs = take n (drop m bs) in
+      lt-of-lt-of-le (number-lt xs (bytes-take n (drop m bs) (bytes-drop m bs b)))
+      (pow-le-pow-right {n = 256} (omega arith) {i = length xs} {j = n} (omega (arith, length-take n (drop m bs))))
 
   actor-in-bits : actorIn bs < 2 ^ 8
-  actor-in-bits = byCases (ltb 1 (length bs)) (λ e. rw (← actor-there bs (ltb-true 1 _ e)) (b 1)) (λ e. rw (← actor-missing bs (ltb-false 1 _ e)) (omega arith))
+  actor-in-bits = byCases (ltb 1 (length bs))
+      (λ e. rw (← actor-there bs (ltb-true 1 _ e)) (b 1))
+      (λ e. rw (← actor-missing bs (ltb-false 1 _ e)) (omega arith))
 
   list-in-bits : PairsInBits (listIn bs)
   unfolding listIn
@@ -81,7 +81,17 @@ bytes-written bs b fit = ap requestBytes (sym (ask-fit bs fit)) ∙ fields-back 
 pub code-read : (bs : List ℕ) → codeOf (askFrom bs) ≡ codeIn bs
 unfolding askFrom
 code-read bs = by-cond (λ q. codeOf q ≡ codeIn bs) (fitsOf bs) _ _
-    (λ _. by-code (λ q. codeOf q ≡ codeIn bs) bs (record { one = sym; two = sym; three = sym; four = sym; five = sym; six = sym; seven = sym; eight = sym; none = λ _. refl }))
+    (λ _. by-code (λ q. codeOf q ≡ codeIn bs) bs (record {
+      one = sym;
+      two = sym;
+      three = sym;
+      four = sym;
+      five = sym;
+      six = sym;
+      seven = sym;
+      eight = sym;
+      none = λ _. refl;
+    }))
     (λ _. refl)
 
 pub code-first : (q : Ask) → byteAt (requestBytes q) 0 ≡ codeOf q
@@ -106,10 +116,7 @@ length-request (unknown c a) h = omega arith
 
 pub held-first : (bs : List ℕ) → length bs ≤ 22 → take (heldBytes bs .count) (heldBytes bs .bytes) ≡ bs
 unfolding heldBytes
-held-first bs h =
-    let xs = padded 22 0 bs in
-    as-tabulate (length bs) (λ k. byteAt xs k) 0 (take (length bs) xs) (length-take-le (length bs) xs (omega (arith, length-padded 22 0 bs)))
-    (λ k g. getD-take (length bs) xs k 0 g) ∙ padded-all 22 0 bs h
+held-first bs h = zeros-front bs _ (length bs) refl h refl
 
 pub held-read : (q : Ask) → length (pairsIn q) ≤ 4 → InBits q → askFrom (take (writtenOf q .count) (writtenOf q .bytes)) ≡ q
 held-read q h z =

@@ -1,5 +1,5 @@
--- Writing what was read: bytes that are a request are its code, its actor and its fields, each from where the one before it ends. By the code.
--- Assumes nothing.
+-- Writing what was read: bytes that are a request are its code, its actor and its fields, each from where the one before it ends. By the
+-- code. Assumes nothing.
 use mathlib.Core.Path.{_≡_, refl, sym, _∙_, ap, ap₂}
 use mathlib.Core.Bool.{true}
 use mathlib.Core.List.{List, [], _∷_, _++_, append-nil}
@@ -34,7 +34,8 @@ module _ (bs : List ℕ) (m n : ℕ) (h : m + n ≤ length bs) where
 
   bytes-first : tabulate n (λ k. byteAt bs (m + k)) ++ drop (m + n) bs ≡ drop m bs
   bytes-first =
-      beside (tabulate-is n (λ k. byteAt bs (m + k)) 0 (take n (drop m bs)) length-first (λ k g. sym (getD-take n (drop m bs) k 0 g ∙ getD-drop m bs k 0))) refl
+      beside (tabulate-is n (λ k. byteAt bs (m + k)) 0 (take n (drop m bs)) length-first
+      (λ k g. sym (getD-take n (drop m bs) k 0 g ∙ getD-drop m bs k 0))) refl
       ∙ parted
 
   number-first : Bytes bs → bytesOf n (numberOf (take n (drop m bs))) ++ drop (m + n) bs ≡ drop m bs
@@ -47,7 +48,8 @@ module _ (bs : List ℕ) where
   list-first place e h =
       ap₂ {C = List ℕ} (λ (x : ℕ) (l : List ℕ). x ∷ (l ++ drop (place + 1 + 2 * countIn bs) bs)) (length-list bs ∙ ap (byteAt bs) e)
       (ap (λ (p : ℕ). pairBytes (tabulate (countIn bs) (pairFrom bs p))) e ∙ pairs-back bs place (countIn bs) h)
-      ∙ ap (λ (l : List ℕ). byteAt bs place ∷ l) (parted bs (place + 1) (2 * countIn bs) h ∙ (rw add-one refl)) ∙ sym (drop-cons bs place 0 (omega arith))
+      ∙ ap (λ (l : List ℕ). byteAt bs place ∷ l) (parted bs (place + 1) (2 * countIn bs) h ∙ (rw add-one refl))
+      ∙ sym (drop-cons bs place 0 (omega arith))
 
   -- and what follows it: another part, or nothing
   followed : (xs : List ℕ) {us ys zs : List ℕ} → xs ++ ys ≡ zs → us ≡ ys → xs ++ us ≡ zs
@@ -60,9 +62,11 @@ module _ (bs : List ℕ) where
   wrote : (q : Ask) → 2 ≤ length bs → codeOf q ≡ codeIn bs → actorOf q ≡ actorIn bs → fieldBytes q ≡ drop 2 bs → requestBytes q ≡ bs
   unfolding requestBytes tabulate
   wrote q h e f g =
-      ap₂ {C = List ℕ} (λ (c a : ℕ). c ∷ a ∷ fieldBytes q) e (f ∙ sym (actor-there bs h)) ∙ followed (codeIn bs ∷ byteAt bs 1 ∷ []) (bytes-first bs 0 2 h) g
+      ap₂ {C = List ℕ} (λ (c a : ℕ). c ∷ a ∷ fieldBytes q) e (f ∙ sym (actor-there bs h))
+      ∙ followed (codeIn bs ∷ byteAt bs 1 ∷ []) (bytes-first bs 0 2 h) g
 
-  wrote-plain : (q : Ask) (n : ℕ) → length bs ≡ 2 + n → codeOf q ≡ codeIn bs → actorOf q ≡ actorIn bs → fieldBytes q ≡ tabulate n (λ k. byteAt bs (2 + k)) → requestBytes q ≡ bs
+  wrote-plain : (q : Ask) (n : ℕ) → length bs ≡ 2 + n → codeOf q ≡ codeIn bs → actorOf q ≡ actorIn bs
+      → fieldBytes q ≡ tabulate n (λ k. byteAt bs (2 + k)) → requestBytes q ≡ bs
   wrote-plain q n l e f g = wrote q (omega arith) e f (g ∙ last _ _ (2 + n) (omega arith) (bytes-first bs 2 n (omega arith)))
 
 module _ (bs : List ℕ) (b : Bytes bs) (fit : fitsOf bs ≡ true) where

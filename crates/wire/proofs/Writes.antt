@@ -1,5 +1,5 @@
--- What the writers leave is the request's bytes and zeros after them. A list of zeros whose first elements are known is written and lent at
--- known places, so most of it computes; a list's length does not, and its end is found by `zeros-push`. Assumes nothing.
+-- What the writers leave is the request's bytes with zeros after them. Numbers are put at known places, so that computes; a list's end is found
+-- by the laws of Zeros.antt. Assumes nothing.
 use mathlib.Core.Path.{_≡_, refl, sym, _∙_, ap₂, subst}
 use mathlib.Core.List.{List, [], _∷_, _++_}
 use Prim.Native.Nat.{ℕ, _+_, _*_, _≤_, _<_}
@@ -14,7 +14,8 @@ use Rattle.requests.specs.declared.Request.{Request}
 use Rattle.requests.specs.Asks.{Ask, write, send, allocate, pairsIn, pairsOf, askOf}
 use Rattle.wire.specs.declared.Written.{Written}
 use Rattle.wire.specs.Written.{pairBytes, listBytes, fieldBytes, requestBytes, heldBytes, writtenOf}
-use Rattle.wire.proofs.Pairs.{length-pairs, length-held, zeros-push}
+use Rattle.wire.proofs.Pairs.{length-pairs, length-held}
+use Rattle.wire.proofs.Zeros.{zeros-push, zeros-front, zeros-after}
 
 -- by the length of the list
 module _ (q : Ask) where
@@ -33,16 +34,18 @@ module _ (q : Ask) where
   written-made h l n e f = ap₂ {C = Written} (λ (x : List ℕ) (k : ℕ). record { bytes = x; count = k }) e f ∙ written-short h
 
 -- the request that a match told
-pub written-told : (list : PairList) {request told : Request} {w : Written} → request ≡ told → w ≡ writtenOf (askOf told list) → w ≡ writtenOf (askOf request list)
+pub written-told : (list : PairList) {request told : Request} {w : Written} → request ≡ told → w ≡ writtenOf (askOf told list)
+    → w ≡ writtenOf (askOf request list)
 written-told list {w = w} e f = subst (λ (r : Request). w ≡ writtenOf (askOf r list)) (sym e) f
 
--- numbers --------------------------------------------------------------------------
+-- a number behind fields of a byte each ----------------------------------------------------
 pub word-left : (c a t w : ℕ) (l x : List ℕ) → l ≡ padded 22 0 (c ∷ a ∷ t ∷ 0 ∷ 0 ∷ []) → x ≡ bytesOf (length (midOf 3 4 l)) w
     → putMid 3 4 l x ≡ padded 22 0 (c ∷ a ∷ t ∷ bytesOf 4 w)
 unfolding padded tabulate bytesOf
 word-left c a t w l x e f = rw (f, e) refl
 
-pub write-left : (a t w : ℕ) (l : List ℕ) → l ≡ padded 22 0 (2 ∷ a ∷ t ∷ bytesOf 4 w) → _≡_ {A = Written} (record { bytes = l; count = 7 }) (writtenOf (write a t w))
+pub write-left : (a t w : ℕ) (l : List ℕ) → l ≡ padded 22 0 (2 ∷ a ∷ t ∷ bytesOf 4 w)
+    → _≡_ {A = Written} (record { bytes = l; count = 7 }) (writtenOf (write a t w))
 unfolding requestBytes fieldBytes bytesOf
 write-left a t w l e = written-made (write a t w) (omega arith) l 7 e refl
 
@@ -51,40 +54,39 @@ pub part-left : (a n k p i : ℕ) (l x : List ℕ) → l ≡ padded 22 0 (7 ∷ 
 unfolding padded tabulate bytesOf
 part-left a n k p i l x e f = rw (f, e) refl
 
--- a list after them -----------------------------------------------------------------------
+-- a list behind the number -----------------------------------------------------------------
 module _ (list : PairList) where
+  -- too long a list
   pub list-long : (q : Ask) (r : Written) → pairsIn q ≡ pairsOf list → 4 < list .count → r ≡ heldBytes [] → r ≡ writtenOf q
   list-long q r f h e = e ∙ written-long q (rw f (omega (arith, length-held list)))
 
   -- behind the word of a send, and the reply behind it
   module _ (a t w : ℕ) (l : List ℕ) (e : l ≡ padded 22 0 (6 ∷ a ∷ t ∷ bytesOf 4 w)) where
     pub send-room : l ≡ padded 22 0 (take 7 l)
-    unfolding padded tabulate bytesOf
-    send-room = rw e refl
-
-    send-list : (r : List ℕ) → r ≡ padded 22 0 (take 7 l ++ listBytes (pairsOf list)) → r ≡ padded 22 0 (6 ∷ a ∷ t ∷ (bytesOf 4 w ++ listBytes (pairsOf list)))
-    unfolding padded tabulate bytesOf
-    send-list r f = rw (f, e) refl
+    unfolding bytesOf
+    send-room = zeros-after _ l 7 refl (omega arith) e
 
     pub send-left : list .count ≤ 4 → (y : ℕ) (r : List ℕ) → r ≡ padded 22 0 (take 7 l ++ listBytes (pairsOf list))
-        → _≡_ {A = Written} (record { bytes = set r (8 + 2 * list .count) y; count = 9 + 2 * list .count }) (writtenOf (send a t w (pairsOf list) y))
+        → _≡_ {A = Written} (record { bytes = set r (8 + 2 * list .count) y; count = 9 + 2 * list .count })
+        (writtenOf (send a t w (pairsOf list) y))
     unfolding requestBytes fieldBytes bytesOf
     send-left few y r f =
         let n = length-held list in
         let m = length-pairs (pairsOf list) in
         written-made (send a t w (pairsOf list) y) (omega arith) _ _
-        (zeros-push 22 _ r (8 + 2 * list .count) y (omega arith) (omega arith) (send-list r f)) (omega (arith, length-append (pairBytes (pairsOf list)) (y ∷ [])))
+        (zeros-push _ r (8 + 2 * list .count) y (omega arith) (omega arith) (rw (zeros-front _ l 7 refl (omega arith) e) at f))
+        (omega (arith, length-append (pairBytes (pairsOf list)) (y ∷ [])))
 
   -- behind the slot of an allocate
   module _ (a n k p i : ℕ) (l : List ℕ) (e : l ≡ padded 22 0 (7 ∷ a ∷ n ∷ k ∷ (bytesOf 8 p ++ (i ∷ [])))) where
     pub allocate-room : l ≡ padded 22 0 (take 13 l)
-    unfolding padded tabulate bytesOf
-    allocate-room = rw e refl
+    unfolding bytesOf
+    allocate-room = zeros-after _ l 13 refl (omega arith) e
 
     pub allocate-left : list .count ≤ 4 → (r : List ℕ) → r ≡ padded 22 0 (take 13 l ++ listBytes (pairsOf list))
         → _≡_ {A = Written} (record { bytes = r; count = 14 + 2 * list .count }) (writtenOf (allocate a n k p i (pairsOf list)))
-    unfolding requestBytes fieldBytes padded tabulate bytesOf
+    unfolding requestBytes fieldBytes bytesOf
     allocate-left few r f =
         let z = length-held list in
         let m = length-pairs (pairsOf list) in
-        written-made (allocate a n k p i (pairsOf list)) (omega arith) r _ (rw (f, e) refl) (omega arith)
+        written-made (allocate a n k p i (pairsOf list)) (omega arith) r _ (rw (zeros-front _ l 13 refl (omega arith) e) at f) (omega arith)

@@ -11,20 +11,47 @@ ghost use Rattle.octets.specs.BigEndian.{bytesOf};
 ghost use Rattle.requests.specs.Asks.{write, send, allocate, pairsOf, askOf};
 ghost use Rattle.wire.specs.Written.{listBytes, heldBytes, writtenOf};
 
-// The code, the actor and up to three fields of a byte each. A field that is left out is 0, as what stands after the bytes.
+// The code, the actor and up to three fields of a byte each. A field that is not there is 0, as is all that stands after them.
 fn head(code: u8, actor: u8, t: u8, i: u8, j: u8) -> [u8; 22]
     ensures { λ r. ⌜ r ≡ padded 22 0 (code ∷ actor ∷ t ∷ i ∷ j ∷ []) ⌝ }
 {
-    let mut bytes = [0u8; 22];
-    bytes[0] = code;
-    bytes[1] = actor;
-    bytes[2] = t;
-    bytes[3] = i;
-    bytes[4] = j;
-    bytes
+    [
+        code,
+        actor,
+        t,
+        i,
+        j,
+        0,
+        0,
+        0,
+        0,
+        0,
+        0,
+        0,
+        0,
+        0,
+        0,
+        0,
+        0,
+        0,
+        0,
+        0,
+        0,
+        0,
+    ]
 }
 
-// The code, the actor, the slot and the word.
+// A request whose fields are a byte each: the first `count` bytes of its head.
+fn plain_bytes(code: u8, actor: u8, t: u8, i: u8, j: u8, count: usize) -> Written
+    ensures { λ r. ⌜ r ≡ record { bytes = padded 22 0 (code ∷ actor ∷ t ∷ i ∷ j ∷ []); count = count } ⌝ }
+{
+    Written {
+        bytes: head(code, actor, t, i, j),
+        count: count,
+    }
+}
+
+// The word behind the code, the actor and the slot.
 fn with_word(code: u8, actor: u8, t: u8, word: u32) -> [u8; 22]
     ensures { λ r. ⌜ r ≡ padded 22 0 (code ∷ actor ∷ t ∷ bytesOf 4 word) ⌝ }
 {
@@ -33,17 +60,17 @@ fn with_word(code: u8, actor: u8, t: u8, word: u32) -> [u8; 22]
     bytes
 }
 
-// The code, the actor, the number, the kind, the part and the slot of an allocate.
-fn with_part(actor: u8, n: u8, kind: u8, part: u64, i: u8) -> [u8; 22]
-    ensures { λ r. ⌜ r ≡ padded 22 0 (7 ∷ actor ∷ n ∷ kind ∷ (bytesOf 8 part ++ (i ∷ []))) ⌝ }
+// A write: its word.
+fn write_bytes(actor: u8, t: u8, word: u32) -> Written
+    ensures { λ r. ⌜ r ≡ writtenOf (write actor t word) ⌝ }
 {
-    let mut bytes = head(7, actor, n, kind, 0);
-    octets::put_number(&mut bytes[4..12], part);
-    bytes[12] = i;
-    bytes
+    Written {
+        bytes: with_word(2, actor, t, word),
+        count: 7,
+    }
 }
 
-// A list at its place, after which zeros stand: its count and then its pairs.
+// A list where zeros stand, from its place on: its count and then its pairs.
 fn with_list(bytes: [u8; 22], place: usize, list: PairList) -> [u8; 22]
     requires { ⌜ (list .count ≤ 4) × (place ≤ 13) × (bytes ≡ padded 22 0 (take place bytes)) ⌝ }
     ensures { λ r. ⌜ r ≡ padded 22 0 (take place bytes ++ listBytes (pairsOf list)) ⌝ }
@@ -51,11 +78,13 @@ fn with_list(bytes: [u8; 22], place: usize, list: PairList) -> [u8; 22]
     let n = list.count as usize;
     let mut written = bytes;
     written[place] = list.count;
+    let mut at = place + 1;
     let mut k: usize = 0;
     while k < n {
         let p = list.pairs[k];
-        written[place + 1 + 2 * k] = p.from;
-        written[place + 2 + 2 * k] = p.to;
+        written[at] = p.from;
+        written[at + 1] = p.to;
+        at = at + 2;
         k = k + 1;
     }
     written
@@ -72,13 +101,13 @@ fn nothing() -> Written
 }
 
 // A send: its word, its list, and the reply after the list.
-fn send_bytes(actor: u8, t: u8, word: u32, reply: u8, list: PairList) -> Written
+fn send_bytes(actor: u8, t: u8, word: u32, list: PairList, reply: u8) -> Written
     ensures { λ r. ⌜ r ≡ writtenOf (send actor t word (pairsOf list) reply) ⌝ }
 {
-    if 4 < list.count {
+    let n = list.count as usize;
+    if 4 < n {
         return nothing();
     }
-    let n = list.count as usize;
     let mut bytes = with_list(with_word(6, actor, t, word), 7, list);
     bytes[8 + 2 * n] = reply;
     Written {
@@ -87,36 +116,27 @@ fn send_bytes(actor: u8, t: u8, word: u32, reply: u8, list: PairList) -> Written
     }
 }
 
+// The part behind the code, the actor, the number and the kind of an allocate, and its slot.
+fn with_part(actor: u8, n: u8, kind: u8, part: u64, i: u8) -> [u8; 22]
+    ensures { λ r. ⌜ r ≡ padded 22 0 (7 ∷ actor ∷ n ∷ kind ∷ (bytesOf 8 part ++ (i ∷ []))) ⌝ }
+{
+    let mut bytes = head(7, actor, n, kind, 0);
+    octets::put_number(&mut bytes[4..12], part);
+    bytes[12] = i;
+    bytes
+}
+
 // An allocate: its part, its slot, and its list.
 fn allocate_bytes(actor: u8, n: u8, kind: u8, part: u64, i: u8, list: PairList) -> Written
     ensures { λ r. ⌜ r ≡ writtenOf (allocate actor n kind part i (pairsOf list)) ⌝ }
 {
-    if 4 < list.count {
+    let count = list.count as usize;
+    if 4 < count {
         return nothing();
     }
     Written {
         bytes: with_list(with_part(actor, n, kind, part, i), 13, list),
-        count: 14 + 2 * (list.count as usize),
-    }
-}
-
-// A write: its word.
-fn write_bytes(actor: u8, t: u8, word: u32) -> Written
-    ensures { λ r. ⌜ r ≡ writtenOf (write actor t word) ⌝ }
-{
-    Written {
-        bytes: with_word(2, actor, t, word),
-        count: 7,
-    }
-}
-
-// A request whose fields are a byte each: the first `count` bytes of these.
-fn plain_bytes(code: u8, actor: u8, t: u8, i: u8, j: u8, count: usize) -> Written
-    ensures { λ r. ⌜ r ≡ record { bytes = padded 22 0 (code ∷ actor ∷ t ∷ i ∷ j ∷ []); count = count } ⌝ }
-{
-    Written {
-        bytes: head(code, actor, t, i, j),
-        count: count,
+        count: 14 + 2 * count,
     }
 }
 
@@ -135,7 +155,7 @@ pub fn request_bytes(request: Request, list: PairList) -> Written
             t,
             word,
             reply,
-        } => send_bytes(actor, t, word, reply, list),
+        } => send_bytes(actor, t, word, list, reply),
         Request::Allocate {
             actor,
             n,

@@ -1,10 +1,10 @@
+-- `nothing` meets its contract: 22 zeros and a count of 0 hold no bytes, by computing. Assumes nothing.
 use mathlib.Core.Path.{refl}
 use Rattle.table.specs.Lists.{tabulate, padded}
 use Rattle.wire.specs.Written.{heldBytes}
 use Rattle.wire.proofs.writing.nothing.Statement.{statement}
 use Rattle.wire.proofs.writing.nothing.Tie as tie
 
--- src/writing.rt:53:1
 returns : tie.Need-returns
 unfolding padded tabulate heldBytes
 returns c = refl

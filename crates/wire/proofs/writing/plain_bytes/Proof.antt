@@ -1,3 +1,4 @@
+-- `plain_bytes` meets its contract: its bytes are what `head` ensures. Assumes nothing.
 use mathlib.Core.Path.{refl}
 use borrow.Author.Needs.{needs}
 use Rattle.wire.proofs.writing.plain_bytes.Statement.{statement}

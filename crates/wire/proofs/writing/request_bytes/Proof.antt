@@ -1,3 +1,5 @@
+-- `request_bytes` meets its contract: each arm of the match is that request's own function, and a request with no list is its head, by
+-- computing. Assumes nothing.
 use Rattle.table.specs.Lists.{tabulate, padded}
 use Rattle.requests.specs.Asks.{askOf}
 use Rattle.wire.specs.Written.{fieldBytes, requestBytes, heldBytes, writtenOf}

@@ -1,3 +1,4 @@
+-- `with_part` meets its contract: the eight bytes that are lent come back as the part's. Assumes nothing.
 use Rattle.wire.proofs.Writes.{part-left}
 use borrow.Author.Needs.{needs}
 use Rattle.wire.proofs.writing.with_part.Statement.{statement}

@@ -1,3 +1,4 @@
+-- `with_word` meets its contract: the four bytes that are lent come back as the word's. Assumes nothing.
 use Rattle.wire.proofs.Writes.{word-left}
 use borrow.Author.Needs.{needs}
 use Rattle.wire.proofs.writing.with_word.Statement.{statement}
@@ -19,7 +20,8 @@ put-number-requires : tie.Need-put-number-requires
 put-number-requires c κs = search needs
 
 returns : tie.Need-returns
-returns c = word-left (c .before .before .before .before .args .code) (c .before .before .before .before .args .actor) (c .before .before .before .before .args .t) (c .before .before .before .before .args .word) _ _ (c .before .before .before .head .ensures) (c .before .put-number .ensures)
+returns c = let a = c .before .before .before .before .args in
+    word-left (a .code) (a .actor) (a .t) (a .word) _ _ (c .before .before .before .head .ensures) (c .before .put-number .ensures)
 
 pub with-word-spec : {M : Type 1} → statement M
 with-word-spec =
