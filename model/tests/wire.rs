@@ -69,8 +69,8 @@ fn bytes_and_requests_go_back_and_forth() {
 #[test]
 fn other_bytes_make_a_request_without_fields() {
     let without = |code, actor| Request::Unknown { code, actor };
-    assert_eq!(decode(&[]), without(0, 0));
-    assert_eq!(decode(&[7]), without(7, 0));
+    assert_eq!(decode(&[]), without(0, 64));
+    assert_eq!(decode(&[7]), without(7, 64));
     assert_eq!(decode(&[1, 9]), without(1, 9));
     assert_eq!(decode(&[1, 9, 2, 0]), without(1, 9));
     assert_eq!(decode(&[9, 9, 2]), without(9, 9));
