@@ -2,6 +2,7 @@
 //! The relation is kept for every pair of points; nothing is grouped or left out for speed.
 
 use crate::refusal::Refusal;
+use crate::set;
 use crate::table::{Table, ALL_RIGHTS, OBJECTS, RD, TX, WK, WR};
 
 /// Rights between `N` points: `rights[x][y]` are the rights that x has over y.
@@ -100,9 +101,7 @@ impl Relation<OBJECTS> {
     /// The influenced set of number x, at most 63. For an unborn number it is empty.
     pub fn influenced_set(&self, x: u8) -> u64 {
         let reached = self.influenced_points(usize::from(x));
-        (0..OBJECTS)
-            .filter(|&n| reached[n])
-            .fold(0, |set, n| set | 1 << n)
+        set::of((0..64).filter(|&n| reached[usize::from(n)]))
     }
 }
 

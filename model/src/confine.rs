@@ -1,10 +1,11 @@
 //! The program `confine`: from the bytes of its input to the text that it prints.
 //! The input is an image, 8 bytes of members, a count byte and 2 bytes for each entry.
 
-use crate::confinement::{confinement_test, Entry};
+use crate::confinement::confinement_test;
 use crate::image::{big_endian, read, IMAGE_LENGTH};
 use crate::refusal::Refusal;
 use crate::set;
+use crate::wire::decode_list;
 
 /// Where the count byte stands: after the image and the members.
 const COUNT_AT: usize = IMAGE_LENGTH + 8;
@@ -21,10 +22,7 @@ pub fn confine(input: &[u8]) -> String {
         return refused(number);
     }
     let members = big_endian(&input[IMAGE_LENGTH..COUNT_AT]);
-    let list: Vec<Entry> = input[ENTRIES_AT..]
-        .chunks_exact(2)
-        .map(|entry| (entry[0], entry[1]))
-        .collect();
+    let list = decode_list(&input[ENTRIES_AT..]);
     match confinement_test(&table, members, &list) {
         (0, bound) => accepted(bound),
         (number, _) => refused(number),

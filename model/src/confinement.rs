@@ -97,7 +97,5 @@ fn bound(table: &Table, members: u64, list: &[Entry]) -> u64 {
     }
     relation.saturate();
     let influenced = relation.influenced_points(STAND_IN);
-    set::numbers(!members)
-        .filter(|&n| influenced[usize::from(n)])
-        .fold(0, |bound, n| bound | set::single(n))
+    set::of(set::numbers(!members).filter(|&n| influenced[usize::from(n)]))
 }

@@ -1,22 +1,44 @@
-//! Reference model of a capability table with a confinement test, in plain safe Rust.
-//! It is written from document 01 alone, so that other implementations can be compared with it.
+//! The capability table of document 01 as a model in plain safe Rust, without dependencies. It is
+//! written from that document alone, so that other implementations can be compared with it.
+//!
+//! Document 01, section by section:
+//!
+//! | section | file |
+//! |---|---|
+//! | Objects, slots, rights | `table`: records, soundness; `set`: numbers as 64 bits |
+//! | The eight requests | `step`: needs, effects, both forms of a step; `wire`: as bytes |
+//! | Potential access and influence | `access`: by saturation of the rules as written |
+//! | The confinement test | `confinement`: checks, stand-in, bound |
+//! | Two runs | `runs`: a run, the clean objects along it, their requests and replies |
+//! | Why something is turned down | `refusal`: numbers; each check is where it refuses |
+//! | The stored image | `image`: reading, writing; `confine`: the program |
+//! | Table K and twelve examples | `table`: `Table::k`; `tests/examples.rs` |
+//! | What every contract owes | none: it is about proofs |
+//! | Where earlier tables went astray | `tests/sentences.rs`, a test each |
+//! | Forms for parts of the code | none: it is about the proved code |
+//!
+//! Beside these, `links` leads to the bound a second way, as the proved code has it too: what can be
+//! reached from the holder of the list, link by link. Of requests and lists as bytes document 01 says no
+//! more than the order of fields; `wire` has what crosses to C and Rust.
 
 #![forbid(unsafe_code)]
 
-pub mod access;
-pub mod built_program;
-pub mod confine;
-pub mod confinement;
-pub mod definitions;
-pub mod generate;
-pub mod image;
-pub mod json;
-pub mod links;
-pub mod refusal;
-pub mod rng;
+// In the order of document 01.
 pub mod set;
-pub mod step;
 pub mod table;
-pub mod two_runs;
-pub mod vectors;
+
+pub mod step;
 pub mod wire;
+
+pub mod access;
+pub mod links;
+
+pub mod confinement;
+
+pub mod runs;
+
+pub mod refusal;
+
+pub mod image;
+
+pub mod confine;

@@ -31,7 +31,7 @@ impl Links {
 
     /// The links of a table: between born numbers.
     pub fn of_table(table: &Table) -> Links {
-        Links::among(table, born(table))
+        Links::among(table, table.born())
     }
 
     /// Adds the links of one capability.
@@ -57,11 +57,4 @@ impl Links {
         }
         seen
     }
-}
-
-/// The born numbers of a table.
-pub fn born(table: &Table) -> u64 {
-    (0..64)
-        .filter(|&n| table.is_born(n))
-        .fold(0, |all, n| all | set::single(n))
 }

@@ -1,14 +1,17 @@
 //! Sets of object numbers held as 64 bits: bit n stands for number n.
 //! Stocks, members and bounds all use this form.
 
+use std::borrow::Borrow;
+
 /// The set that holds `n` alone. `n` is at most 63.
 pub fn single(n: u8) -> u64 {
     1 << n
 }
 
 /// The set of the numbers given, each at most 63.
-pub fn of(numbers: &[u8]) -> u64 {
-    numbers.iter().fold(0, |set, &n| set | single(n))
+pub fn of(numbers: impl IntoIterator<Item = impl Borrow<u8>>) -> u64 {
+    let numbers = numbers.into_iter();
+    numbers.fold(0, |set, n| set | single(*n.borrow()))
 }
 
 /// Whether `n` is in the set. A number above 63 is in no set.

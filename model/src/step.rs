@@ -1,4 +1,4 @@
-//! The eight requests: what refuses them, what they do, and runs of several requests.
+//! The eight requests: what each needs, what refuses it and what it does.
 //! A step exists in two forms, table in and table out, and on a table lent to be changed.
 
 use crate::refusal::{reply_number, Refusal};
@@ -14,17 +14,35 @@ pub const NO_REPLY: u8 = 8;
 /// A pair: the actor's slot, the destination slot.
 pub type Pair = (u8, u8);
 
-/// The requests by name.
+/// A request, a line each as in document 01. Any field may be out of range, and a list of any length
+/// can be stated: that is for the step to refuse.
+#[rustfmt::skip]
+#[derive(Clone, Debug, PartialEq, Eq)]
+pub enum Request {
+    Read { actor: u8, t: u8 },
+    Write { actor: u8, t: u8, word: u32 },
+    Fetch { actor: u8, t: u8, i: u8, j: u8 },
+    Store { actor: u8, t: u8, i: u8, j: u8 },
+    Revoke { actor: u8, t: u8, j: u8 },
+    Send { actor: u8, t: u8, word: u32, list: Vec<Pair>, reply: u8 },
+    Allocate { actor: u8, n: u8, kind: u8, part: u64, i: u8, list: Vec<Pair> },
+    Destroy { actor: u8, t: u8 },
+    /// A code that is not 1 to 8.
+    Unknown { code: u8, actor: u8 },
+}
+
+/// The requests by name. The discriminant is document 01's code.
 #[derive(Clone, Copy, Debug, PartialEq, Eq)]
+#[repr(u8)]
 pub enum Code {
-    Read,
-    Write,
-    Fetch,
-    Store,
-    Revoke,
-    Send,
-    Allocate,
-    Destroy,
+    Read = 1,
+    Write = 2,
+    Fetch = 3,
+    Store = 4,
+    Revoke = 5,
+    Send = 6,
+    Allocate = 7,
+    Destroy = 8,
 }
 
 impl Code {
@@ -45,18 +63,26 @@ impl Code {
         Code::ALL.into_iter().find(|code| code.number() == number)
     }
 
-    /// The column "Code" of document 01.
     pub fn number(self) -> u8 {
+        self as u8
+    }
+
+    pub fn name(self) -> &'static str {
         match self {
-            Code::Read => 1,
-            Code::Write => 2,
-            Code::Fetch => 3,
-            Code::Store => 4,
-            Code::Revoke => 5,
-            Code::Send => 6,
-            Code::Allocate => 7,
-            Code::Destroy => 8,
+            Code::Read => "read",
+            Code::Write => "write",
+            Code::Fetch => "fetch",
+            Code::Store => "store",
+            Code::Revoke => "revoke",
+            Code::Send => "send",
+            Code::Allocate => "allocate",
+            Code::Destroy => "destroy",
         }
+    }
+
+    /// Number and name, as document 01 has them.
+    pub fn label(self) -> String {
+        format!("{} {}", self.number(), self.name())
     }
 
     /// The rights of which the used slot needs at least one. An allocate uses no slot.
@@ -68,62 +94,53 @@ impl Code {
             Code::Allocate => None,
         }
     }
+
+    /// The request with this code. It takes those of the fields that it has.
+    pub fn request(self, fields: Fields) -> Request {
+        let Fields { actor, t, i, j, .. } = fields;
+        match self {
+            Code::Read => Request::Read { actor, t },
+            Code::Write => Request::Write {
+                actor,
+                t,
+                word: fields.word,
+            },
+            Code::Fetch => Request::Fetch { actor, t, i, j },
+            Code::Store => Request::Store { actor, t, i, j },
+            Code::Revoke => Request::Revoke { actor, t, j },
+            Code::Send => Request::Send {
+                actor,
+                t,
+                word: fields.word,
+                list: fields.list,
+                reply: fields.reply,
+            },
+            Code::Allocate => Request::Allocate {
+                actor,
+                n: fields.n,
+                kind: fields.kind,
+                part: fields.part,
+                i,
+                list: fields.list,
+            },
+            Code::Destroy => Request::Destroy { actor, t },
+        }
+    }
 }
 
-/// A request with the fields of document 01. Any field may be out of range, and a list of any
-/// length can be stated: that is for the step to refuse.
-#[derive(Clone, Debug, PartialEq, Eq)]
-pub enum Request {
-    Read {
-        actor: u8,
-        t: u8,
-    },
-    Write {
-        actor: u8,
-        t: u8,
-        word: u32,
-    },
-    Fetch {
-        actor: u8,
-        t: u8,
-        i: u8,
-        j: u8,
-    },
-    Store {
-        actor: u8,
-        t: u8,
-        i: u8,
-        j: u8,
-    },
-    Revoke {
-        actor: u8,
-        t: u8,
-        j: u8,
-    },
-    Send {
-        actor: u8,
-        t: u8,
-        word: u32,
-        list: Vec<Pair>,
-        reply: u8,
-    },
-    Allocate {
-        actor: u8,
-        n: u8,
-        kind: u8,
-        part: u64,
-        i: u8,
-        list: Vec<Pair>,
-    },
-    Destroy {
-        actor: u8,
-        t: u8,
-    },
-    /// A code that is not 1 to 8.
-    Unknown {
-        code: u8,
-        actor: u8,
-    },
+/// Every field that requests have, by document 01's names. No request has all of them.
+#[derive(Clone, Debug, Default)]
+pub struct Fields {
+    pub actor: u8,
+    pub t: u8,
+    pub i: u8,
+    pub j: u8,
+    pub n: u8,
+    pub kind: u8,
+    pub part: u64,
+    pub word: u32,
+    pub list: Vec<Pair>,
+    pub reply: u8,
 }
 
 impl Request {
@@ -160,17 +177,17 @@ impl Request {
     /// The actor's slot that is used, and the rights of which it needs at least one.
     /// Allocate and unknown codes use no slot.
     pub fn used_slot(&self) -> Option<(u8, u8)> {
-        let (code, t) = match self {
-            Request::Read { t, .. } => (Code::Read, t),
-            Request::Write { t, .. } => (Code::Write, t),
-            Request::Fetch { t, .. } => (Code::Fetch, t),
-            Request::Store { t, .. } => (Code::Store, t),
-            Request::Revoke { t, .. } => (Code::Revoke, t),
-            Request::Send { t, .. } => (Code::Send, t),
-            Request::Destroy { t, .. } => (Code::Destroy, t),
+        let t = match self {
+            Request::Read { t, .. }
+            | Request::Write { t, .. }
+            | Request::Fetch { t, .. }
+            | Request::Store { t, .. }
+            | Request::Revoke { t, .. }
+            | Request::Send { t, .. }
+            | Request::Destroy { t, .. } => *t,
             Request::Allocate { .. } | Request::Unknown { .. } => return None,
         };
-        Some((*t, code.needs()?))
+        Some((t, Code::of(self.code())?.needs()?))
     }
 
     /// Whether the code is known and no field is out of range.
@@ -223,16 +240,6 @@ pub fn step_in_place(table: &mut Table, request: &Request) -> u8 {
     reply_number(&outcome)
 }
 
-/// A run: each request gets the table that the one before it left. The replies are in order.
-pub fn run(start: &Table, requests: &[Request]) -> (Vec<u8>, Table) {
-    let mut table = start.clone();
-    let replies = requests
-        .iter()
-        .map(|request| step_in_place(&mut table, request))
-        .collect();
-    (replies, table)
-}
-
 /// The checks in number order, among those that apply to the request.
 fn check(table: &Table, request: &Request) -> Result<(), Refusal> {
     if !table.is_sound() {
@@ -242,7 +249,7 @@ fn check(table: &Table, request: &Request) -> Result<(), Refusal> {
         return Err(Refusal::FieldOutOfRange);
     }
     let actor = table.record(request.actor());
-    if !actor.is_alive() || !actor.is_active() {
+    if !actor.can_act() {
         return Err(Refusal::ActorNotRunning);
     }
     if let Some((t, needed)) = request.used_slot() {
@@ -305,12 +312,7 @@ fn apply(table: &mut Table, request: &Request) {
         Request::Write { word, .. } => table.record_mut(used.target).word = *word,
         Request::Fetch { i, j, .. } => {
             let found = table.record(used.target).slots[usize::from(*i)];
-            let copy = if used.has_any(RD) {
-                found
-            } else {
-                weaken(found)
-            };
-            table.record_mut(actor).slots[usize::from(*j)] = copy;
+            table.record_mut(actor).slots[usize::from(*j)] = fetched(used, found);
         }
         Request::Store { i, j, .. } => {
             table.record_mut(used.target).slots[usize::from(*j)] = before.slots[usize::from(*i)];
@@ -378,7 +380,16 @@ fn copy_pairs(source: &Slots, list: &[Pair], destination: &mut Slots) {
     }
 }
 
-/// What a fetch without rd gets: wk alone if rd or wk was present, otherwise nothing.
+/// What a fetch copies of what it finds: weakened if rd is absent from the used slot.
+fn fetched(used: Capability, found: Capability) -> Capability {
+    if used.has_any(RD) {
+        found
+    } else {
+        weaken(found)
+    }
+}
+
+/// Weakening gives wk if rd or wk was present; otherwise the copy is empty.
 pub fn weaken(capability: Capability) -> Capability {
     if capability.has_any(RD | WK) {
         Capability::new(capability.target, WK)

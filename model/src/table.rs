@@ -92,6 +92,11 @@ impl Record {
         self.kind == ACTIVE
     }
 
+    /// Whether the object can make requests.
+    pub fn can_act(&self) -> bool {
+        self.is_alive() && self.is_active()
+    }
+
     /// The capabilities in the filled slots, in slot order.
     pub fn capabilities(&self) -> impl Iterator<Item = Capability> + '_ {
         self.slots.iter().copied().filter(|slot| !slot.is_empty())
@@ -131,8 +136,8 @@ impl Table {
         table.records[2].slots[1] = Capability::new(6, WK);
         table.records[4].slots[0] = Capability::new(3, WR);
         table.records[5].slots[0] = Capability::new(1, WR);
-        table.records[5].stock = set::of(&[10, 11]);
-        table.records[4].stock = set::of(&[12]);
+        table.records[5].stock = set::of([10, 11]);
+        table.records[4].stock = set::of([12]);
         table
     }
 
@@ -151,6 +156,11 @@ impl Table {
         self.records
             .get(usize::from(n))
             .is_some_and(Record::is_born)
+    }
+
+    /// The born numbers.
+    pub fn born(&self) -> u64 {
+        set::of((0..64).filter(|&n| self.is_born(n)))
     }
 
     /// Soundness: the four clauses of document 01, one function each.

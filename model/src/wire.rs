@@ -3,7 +3,8 @@
 //! pairs. The list of a test is two bytes for each entry: target, rights.
 
 use crate::confinement::{Entry, MAX_ENTRIES};
-use crate::step::{Pair, Request, MAX_PAIRS};
+use crate::image::big_endian;
+use crate::step::{Code, Fields, Pair, Request, MAX_PAIRS};
 
 /// Who asks where no byte says who does: a number that no object has.
 pub const NOBODY: u8 = 64;
@@ -19,24 +20,15 @@ pub fn decode(bytes: &[u8]) -> Request {
 /// The bytes of a request. A list may be of any length that a count byte can say.
 pub fn encode(request: &Request) -> Vec<u8> {
     let mut bytes = vec![request.code(), request.actor()];
+    bytes.extend(request.used_slot().map(|(t, _)| t));
     match request {
-        Request::Read { t, .. } | Request::Destroy { t, .. } => bytes.push(*t),
-        Request::Write { t, word, .. } => {
-            bytes.push(*t);
-            bytes.extend(word.to_be_bytes());
-        }
-        Request::Fetch { t, i, j, .. } | Request::Store { t, i, j, .. } => {
-            bytes.extend([*t, *i, *j]);
-        }
-        Request::Revoke { t, j, .. } => bytes.extend([*t, *j]),
+        Request::Read { .. } | Request::Destroy { .. } | Request::Unknown { .. } => {}
+        Request::Write { word, .. } => bytes.extend(word.to_be_bytes()),
+        Request::Fetch { i, j, .. } | Request::Store { i, j, .. } => bytes.extend([*i, *j]),
+        Request::Revoke { j, .. } => bytes.push(*j),
         Request::Send {
-            t,
-            word,
-            list,
-            reply,
-            ..
+            word, list, reply, ..
         } => {
-            bytes.push(*t);
             bytes.extend(word.to_be_bytes());
             put_list(&mut bytes, list);
             bytes.push(*reply);
@@ -54,7 +46,6 @@ pub fn encode(request: &Request) -> Vec<u8> {
             bytes.push(*i);
             put_list(&mut bytes, list);
         }
-        Request::Unknown { .. } => {}
     }
     bytes
 }
@@ -80,7 +71,7 @@ impl Rest<'_> {
     fn number(&mut self, size: usize) -> Option<u64> {
         let (first, rest) = self.0.split_at_checked(size)?;
         self.0 = rest;
-        Some(first.iter().fold(0, |n, &byte| n << 8 | u64::from(byte)))
+        Some(big_endian(first))
     }
 
     fn byte(&mut self) -> Option<u8> {
@@ -101,53 +92,41 @@ impl Rest<'_> {
 /// The request, if the bytes are one, no fewer and no more.
 pub fn request_in(bytes: &[u8]) -> Option<Request> {
     let mut rest = Rest(bytes);
-    let (code, actor) = (rest.byte()?, rest.byte()?);
-    let found = fields(code, actor, &mut rest)?;
-    rest.0.is_empty().then_some(found)
+    let code = Code::of(rest.byte()?)?;
+    let fields = fields_in(code, &mut rest)?;
+    rest.0.is_empty().then(|| code.request(fields))
 }
 
-fn fields(code: u8, actor: u8, rest: &mut Rest) -> Option<Request> {
-    let t = rest.byte()?;
-    Some(match code {
-        1 => Request::Read { actor, t },
-        2 => Request::Write {
-            actor,
-            t,
-            word: rest.number(4)? as u32,
-        },
-        3 => Request::Fetch {
-            actor,
-            t,
-            i: rest.byte()?,
-            j: rest.byte()?,
-        },
-        4 => Request::Store {
-            actor,
-            t,
-            i: rest.byte()?,
-            j: rest.byte()?,
-        },
-        5 => Request::Revoke {
-            actor,
-            t,
-            j: rest.byte()?,
-        },
-        6 => Request::Send {
-            actor,
-            t,
-            word: rest.number(4)? as u32,
-            list: rest.list()?,
-            reply: rest.byte()?,
-        },
-        7 => Request::Allocate {
-            actor,
-            n: t,
-            kind: rest.byte()?,
-            part: rest.number(8)?,
-            i: rest.byte()?,
-            list: rest.list()?,
-        },
-        8 => Request::Destroy { actor, t },
-        _ => return None,
-    })
+/// The fields of a request with the code, in document 01's order.
+fn fields_in(code: Code, rest: &mut Rest) -> Option<Fields> {
+    let mut fields = Fields {
+        actor: rest.byte()?,
+        ..Fields::default()
+    };
+    if code == Code::Allocate {
+        fields.n = rest.byte()?;
+    } else {
+        fields.t = rest.byte()?;
+    }
+    match code {
+        Code::Read | Code::Destroy => {}
+        Code::Write => fields.word = rest.number(4)? as u32,
+        Code::Fetch | Code::Store => {
+            fields.i = rest.byte()?;
+            fields.j = rest.byte()?;
+        }
+        Code::Revoke => fields.j = rest.byte()?,
+        Code::Send => {
+            fields.word = rest.number(4)? as u32;
+            fields.list = rest.list()?;
+            fields.reply = rest.byte()?;
+        }
+        Code::Allocate => {
+            fields.kind = rest.byte()?;
+            fields.part = rest.number(8)?;
+            fields.i = rest.byte()?;
+            fields.list = rest.list()?;
+        }
+    }
+    Some(fields)
 }

@@ -4,7 +4,6 @@
 use yavrinks_model::access::potential_access;
 use yavrinks_model::confine::confine;
 use yavrinks_model::confinement::{confinement_test, Entry};
-use yavrinks_model::generate::{encode_input, ConfinementCase};
 use yavrinks_model::image::{encode, read, IMAGE_LENGTH};
 use yavrinks_model::set;
 use yavrinks_model::step::{step, step_in_place, weaken, Request};
@@ -13,11 +12,11 @@ use yavrinks_model::table::{ACTIVE, ALIVE, ALL_RIGHTS, RD, TX, WK, WR};
 
 /// What `confine` prints for a table, members and a list.
 fn printed(table: &Table, members: &[u8], list: &[Entry]) -> String {
-    confine(&encode_input(&ConfinementCase {
-        table: table.clone(),
-        members: set::of(members),
-        list: list.to_vec(),
-    }))
+    let mut input = encode(table);
+    input.extend(set::of(members).to_be_bytes());
+    input.push(list.len() as u8);
+    input.extend(list.iter().flat_map(|&(target, rights)| [target, rights]));
+    confine(&input)
 }
 
 /// Asserts number and bound of a test on table K after a change, and the text of the program.
@@ -112,7 +111,7 @@ fn allocate(n: u8) -> Request {
         actor: 5,
         n,
         kind: ACTIVE,
-        part: set::of(&[11]),
+        part: set::of([11]),
         i: 7,
         list: vec![],
     }
@@ -123,7 +122,7 @@ fn example_06_allocate_is_done() {
     let mut after = Table::k();
     after.records[10].status = ALIVE;
     after.records[10].kind = ACTIVE;
-    after.records[10].stock = set::of(&[11]);
+    after.records[10].stock = set::of([11]);
     after.records[5].stock = 0;
     after.records[5].slots[7] = Capability::new(10, ALL_RIGHTS);
     assert_step(&Table::k(), &allocate(10), 0, &after);

@@ -1,15 +1,17 @@
 //! The test vectors in `vectors/`: steps, potential access, tests and inputs of `confine`.
 //! Every line of every file is compared in full.
 
+mod json;
+
 use std::fs;
 use std::path::PathBuf;
 
+use json::Json;
 use yavrinks_model::access::{potential_access, Access};
 use yavrinks_model::confine::confine;
 use yavrinks_model::confinement::confinement_test;
-use yavrinks_model::json::Json;
 use yavrinks_model::set;
-use yavrinks_model::step::{step, step_in_place, Request};
+use yavrinks_model::step::{step, step_in_place, Code, Fields, Request};
 use yavrinks_model::table::{Capability, Record, Table};
 
 fn vectors() -> PathBuf {
@@ -88,53 +90,25 @@ fn table(value: &Json) -> Table {
     table
 }
 
+/// A request has the fields that its code has, and no others.
 fn request(value: &Json) -> Request {
-    let of = |key: &str| byte(field(value, key));
-    let word = || u32::try_from(number(field(value, "word"))).expect("word");
-    let list = || pairs(field(value, "list"));
-    let (code, actor) = (of("code"), of("actor"));
-    match code {
-        1 => Request::Read { actor, t: of("t") },
-        2 => Request::Write {
-            actor,
-            t: of("t"),
-            word: word(),
-        },
-        3 => Request::Fetch {
-            actor,
-            t: of("t"),
-            i: of("i"),
-            j: of("j"),
-        },
-        4 => Request::Store {
-            actor,
-            t: of("t"),
-            i: of("i"),
-            j: of("j"),
-        },
-        5 => Request::Revoke {
-            actor,
-            t: of("t"),
-            j: of("j"),
-        },
-        6 => Request::Send {
-            actor,
-            t: of("t"),
-            word: word(),
-            list: list(),
-            reply: of("reply"),
-        },
-        7 => Request::Allocate {
-            actor,
-            n: of("n"),
-            kind: of("kind"),
-            part: number_set(field(value, "part")),
-            i: of("i"),
-            list: list(),
-        },
-        8 => Request::Destroy { actor, t: of("t") },
-        _ => Request::Unknown { code, actor },
-    }
+    let (code, actor) = (byte(field(value, "code")), byte(field(value, "actor")));
+    let word = value.get("word").map_or(0, number);
+    let Some(known) = Code::of(code) else {
+        return Request::Unknown { code, actor };
+    };
+    known.request(Fields {
+        actor,
+        t: byte_or_zero(value, "t"),
+        i: byte_or_zero(value, "i"),
+        j: byte_or_zero(value, "j"),
+        n: byte_or_zero(value, "n"),
+        kind: byte_or_zero(value, "kind"),
+        part: value.get("part").map_or(0, number_set),
+        word: u32::try_from(word).expect("word"),
+        list: value.get("list").map_or(Vec::new(), pairs),
+        reply: byte_or_zero(value, "reply"),
+    })
 }
 
 #[test]

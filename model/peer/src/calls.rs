@@ -1,10 +1,10 @@
 //! The archive's calls by name, what each of them is given, and the number that it answers.
 
 use yavrinks_model::table::Table;
+use yavrinks_tools::generate::printed_number;
 
 use crate::archive::{Archive, Calls};
 use crate::convert::to_raw;
-use crate::differential::number_of;
 
 /// An exported call.
 #[derive(Clone, Copy, Debug, PartialEq, Eq)]
@@ -77,7 +77,7 @@ pub fn answer(call: Call, sample: &Sample) -> u8 {
         Call::Confine => {
             let mut out = [0; 256];
             let count = Archive.confine(&mut bytes, &mut out);
-            number_of(&String::from_utf8_lossy(&out[..count.min(256)]))
+            printed_number(&String::from_utf8_lossy(&out[..count.min(256)]))
         }
     }
 }

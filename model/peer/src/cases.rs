@@ -4,15 +4,14 @@
 use yavrinks_model::access::potential_access;
 use yavrinks_model::confine::confine;
 use yavrinks_model::confinement::{confinement_test, Entry};
-use yavrinks_model::generate::{encode_input, ConfinementCase};
 use yavrinks_model::image::{self, IMAGE_LENGTH};
 use yavrinks_model::set;
 use yavrinks_model::step::step;
 use yavrinks_model::table::Table;
-use yavrinks_model::wire::encode;
+use yavrinks_model::wire::{decode_list, encode};
+use yavrinks_tools::generate::{encode_input, printed_number, ConfinementCase};
 
 use crate::calls::{Call, Sample};
-use crate::differential::number_of;
 use crate::samples::{chain_table, held_list, places, requests, unsound_at_the_end, Place};
 
 /// The inputs of a call.
@@ -88,7 +87,7 @@ fn tests() -> Vec<(String, ConfinementCase)> {
     let mut tests = Vec::new();
     for place in places() {
         let (name, table, member) = (place.name, place.table, place.member);
-        let list = entries(&held_list(&table, member));
+        let list = decode_list(&held_list(&table, member));
         let mut add = |what: &str, table: &Table, members: u64, list: &[Entry]| {
             let case = ConfinementCase {
                 table: table.clone(),
@@ -107,7 +106,7 @@ fn tests() -> Vec<(String, ConfinementCase)> {
         add("no members", &table, 0, &list);
         add("nine entries", &table, set::single(member), &[(0, 1); 9]);
         add("unlisted", &table, set::single(member), &[]);
-        add("member named", &table, set::of(&[1, member]), &list);
+        add("member named", &table, set::of([1, member]), &list);
     }
     tests.push((String::from("chain"), chain_test(false, 0, 1)));
     tests.push((String::from("chain turned about"), chain_test(true, 63, 62)));
@@ -121,10 +120,6 @@ fn chain_test(turned: bool, member: u8, next: u8) -> ConfinementCase {
         members: set::single(member),
         list: vec![(next, 1)],
     }
-}
-
-fn entries(list: &[u8]) -> Vec<Entry> {
-    list.chunks_exact(2).map(|two| (two[0], two[1])).collect()
 }
 
 fn test((name, case): (String, ConfinementCase)) -> Sample {
@@ -149,7 +144,7 @@ fn short() -> Sample {
 fn input(name: String, bytes: Vec<u8>) -> Sample {
     Sample {
         name,
-        number: number_of(&confine(&bytes)),
+        number: printed_number(&confine(&bytes)),
         table: Table::unborn(),
         members: 0,
         bytes,

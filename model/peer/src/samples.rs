@@ -1,10 +1,10 @@
 //! The tables and requests that time, stack and instructions are measured on.
 
-use yavrinks_model::generate::{numbers_where, sound_table, Shape};
-use yavrinks_model::rng::Rng;
 use yavrinks_model::set;
-use yavrinks_model::step::{step_in_place, Code, Request};
+use yavrinks_model::step::{step_in_place, Code, Fields, Request};
 use yavrinks_model::table::{Capability, Record, Table, RD, WR};
+use yavrinks_tools::generate::{numbers_where, sound_table, Shape};
+use yavrinks_tools::rng::Rng;
 
 /// A table to measure on, with an object that no other names: the member of its confinement test.
 #[derive(Clone, Debug)]
@@ -60,7 +60,7 @@ pub fn filled_table() -> Table {
             }
         }
     }
-    if let Some(maker) = table.records.iter_mut().find(|record| can_act(record)) {
+    if let Some(maker) = table.records.iter_mut().find(|record| record.can_act()) {
         maker.stock = set::of(&unborn);
     }
     table
@@ -90,10 +90,6 @@ pub fn chain_table(turned: bool) -> Table {
     table
 }
 
-fn can_act(record: &Record) -> bool {
-    record.is_alive() && record.is_active()
-}
-
 /// What a member holds over others, as the bytes of a list.
 pub fn held_list(table: &Table, member: u8) -> Vec<u8> {
     let held = table.record(member).capabilities();
@@ -102,25 +98,11 @@ pub fn held_list(table: &Table, member: u8) -> Vec<u8> {
         .collect()
 }
 
-/// The name of a request.
-fn name(code: Code) -> &'static str {
-    match code {
-        Code::Read => "read",
-        Code::Write => "write",
-        Code::Fetch => "fetch",
-        Code::Store => "store",
-        Code::Revoke => "revoke",
-        Code::Send => "send",
-        Code::Allocate => "allocate",
-        Code::Destroy => "destroy",
-    }
-}
-
 /// Each of the eight requests, done, then one refused by 6 and a nonsense code.
 pub fn requests(table: &Table) -> Vec<(String, Request)> {
     let done = Code::ALL
         .into_iter()
-        .filter_map(|code| Some((name(code).to_string(), find_request(table, code, 0)?)));
+        .filter_map(|code| Some((code.name().to_string(), find_request(table, code, 0)?)));
     let refused =
         find_request(table, Code::Write, 6).map(|request| (String::from("refused write"), request));
     let nonsense = Request::Unknown { code: 99, actor: 2 };
@@ -143,31 +125,18 @@ fn find_request(table: &Table, code: Code, reply: u8) -> Option<Request> {
 }
 
 fn candidate(table: &Table, code: Code, actor: u8, t: u8) -> Request {
-    let (word, i, j) = (7, 1, 6);
-    let list = vec![(0, 1), (1, 2), (2, 3), (3, 4)];
-    match code {
-        Code::Read => Request::Read { actor, t },
-        Code::Write => Request::Write { actor, t, word },
-        Code::Fetch => Request::Fetch { actor, t, i, j },
-        Code::Store => Request::Store { actor, t, i, j },
-        Code::Revoke => Request::Revoke { actor, t, j },
-        Code::Send => Request::Send {
-            actor,
-            t,
-            word,
-            list,
-            reply: 5,
-        },
-        Code::Allocate => Request::Allocate {
-            actor,
-            n: set::numbers(table.record(actor).stock).next().unwrap_or(0),
-            kind: 1,
-            part: 0,
-            i: t,
-            list,
-        },
-        Code::Destroy => Request::Destroy { actor, t },
-    }
+    code.request(Fields {
+        actor,
+        t,
+        i: if code == Code::Allocate { t } else { 1 },
+        j: 6,
+        n: set::numbers(table.record(actor).stock).next().unwrap_or(0),
+        kind: 1,
+        part: 0,
+        word: 7,
+        list: vec![(0, 1), (1, 2), (2, 3), (3, 4)],
+        reply: 5,
+    })
 }
 
 /// The numbers whose records a request changes.

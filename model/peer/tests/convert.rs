@@ -1,11 +1,11 @@
 //! A table to the archive's form and back.
 
-use yavrinks_model::generate::{any_sound_table, damaged_table, Damage};
 use yavrinks_model::image;
-use yavrinks_model::rng::Rng;
 use yavrinks_model::table::Table;
 use yavrinks_peer::archive::{Archive, Calls};
 use yavrinks_peer::convert::{to_model, to_raw};
+use yavrinks_tools::generate::{any_sound_table, damaged_table, Damage};
+use yavrinks_tools::rng::Rng;
 
 #[test]
 fn there_and_back_is_the_same_table() {

@@ -3,6 +3,7 @@
 use yavrinks_model::confinement::confinement_test;
 use yavrinks_model::set;
 use yavrinks_model::step::step;
+use yavrinks_model::wire::decode_list;
 use yavrinks_peer::calls::{answer, Call};
 use yavrinks_peer::cases::samples;
 use yavrinks_peer::samples::{held_list, places, requests};
@@ -23,10 +24,7 @@ fn both_tables_have_all_ten_requests() {
 #[test]
 fn both_tables_have_an_accepted_test() {
     for place in places() {
-        let list: Vec<(u8, u8)> = held_list(&place.table, place.member)
-            .chunks_exact(2)
-            .map(|two| (two[0], two[1]))
-            .collect();
+        let list = decode_list(&held_list(&place.table, place.member));
         let (number, bound) = confinement_test(&place.table, set::single(place.member), &list);
         assert_eq!(number, 0, "{}", place.name);
         assert_ne!(bound, 0, "{}", place.name);

@@ -3,9 +3,10 @@
 use std::hint::black_box;
 
 use yavrinks_model::access::potential_access;
-use yavrinks_model::confinement::{confinement_test, Entry};
+use yavrinks_model::confinement::confinement_test;
 use yavrinks_model::image::{self, IMAGE_LENGTH};
 use yavrinks_model::set;
+use yavrinks_model::wire::decode_list;
 
 use super::measure::{in_turn, Figures};
 use crate::archive::{Archive, Calls};
@@ -53,7 +54,7 @@ fn scan(place: &Place) -> Figures {
 fn test(place: &Place) -> Figures {
     let (mut given, members) = (to_raw(&place.table), set::single(place.member));
     let mut bytes = held_list(&place.table, place.member);
-    let list: Vec<Entry> = bytes.chunks_exact(2).map(|two| (two[0], two[1])).collect();
+    let list = decode_list(&bytes);
     in_turn(
         || {
             let members = black_box(members);

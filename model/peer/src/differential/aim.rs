@@ -1,10 +1,10 @@
 //! Requests aimed at a reply on the table as it is. Aiming only makes every reply common: whether it
 //! was met is for the model to say.
 
-use yavrinks_model::generate::bounded_fields;
-use yavrinks_model::rng::Rng;
-use yavrinks_model::step::{Code, Pair, Request, MAX_PAIRS, NO_REPLY};
+use yavrinks_model::step::{Code, Fields, Pair, Request, MAX_PAIRS, NO_REPLY};
 use yavrinks_model::table::{Record, Table, ACTIVE, OBJECTS, SLOTS};
+use yavrinks_tools::generate::{actor_mut, bounded_fields};
+use yavrinks_tools::rng::Rng;
 
 /// A code and a reply to aim at; some several times, so that they are drawn more often. Destroys that
 /// are done are rare: a table should not soon be dead.
@@ -41,30 +41,29 @@ pub fn in_range(rng: &mut Rng, code: Code, actor: u8, t: u8) -> Request {
     } else {
         (bits >> 32 & 3) as u32
     };
-    let (i, j) = (bits as u8 & 7, (bits >> 3) as u8 & 7);
-    match code {
-        Code::Read => Request::Read { actor, t },
-        Code::Write => Request::Write { actor, t, word },
-        Code::Fetch => Request::Fetch { actor, t, i, j },
-        Code::Store => Request::Store { actor, t, i, j },
-        Code::Revoke => Request::Revoke { actor, t, j },
-        Code::Send => Request::Send {
-            actor,
-            t,
-            word,
+    let fields = Fields {
+        actor,
+        t,
+        i: bits as u8 & 7,
+        j: (bits >> 3) as u8 & 7,
+        word,
+        ..Fields::default()
+    };
+    code.request(match code {
+        Code::Send => Fields {
             list: pairs(rng, MAX_PAIRS as u64),
             reply: rng.byte(0, NO_REPLY),
+            ..fields
         },
-        Code::Allocate => Request::Allocate {
-            actor,
+        Code::Allocate => Fields {
             n: rng.byte(0, 63),
             kind: rng.byte(0, ACTIVE),
             part: rng.bits(),
-            i,
             list: pairs(rng, MAX_PAIRS as u64),
+            ..fields
         },
-        Code::Destroy => Request::Destroy { actor, t },
-    }
+        _ => fields,
+    })
 }
 
 /// A list of at most so many pairs.
@@ -79,17 +78,13 @@ pub fn pair(rng: &mut Rng) -> Pair {
     (bits as u8 & 7, (bits >> 3) as u8 & 7)
 }
 
-fn can_act(record: &Record) -> bool {
-    record.is_alive() && record.is_active()
-}
-
 /// A request whose actor has a slot that leads to the reply, if there is one in the table.
 fn through_slot(rng: &mut Rng, table: &Table, code: Code, aim: u8) -> Request {
     let (first_actor, first_slot) = (rng.byte(0, 63), rng.byte(0, 7));
     let mut fallback = first_actor;
     for k in 0..OBJECTS as u8 {
         let actor = (first_actor + k) % 64;
-        if !can_act(table.record(actor)) {
+        if !table.record(actor).can_act() {
             continue;
         }
         fallback = actor;
@@ -134,8 +129,10 @@ fn find(rng: &mut Rng, table: &Table, wanted: impl Fn(&Record) -> bool) -> Optio
 
 /// An allocate of a number of the actor's own stock; for 9 with a number or a part from outside.
 fn allocate(rng: &mut Rng, table: &Table, aim: u8) -> Request {
-    let maker = find(rng, table, |record| can_act(record) && record.stock != 0);
-    let actor = maker.or_else(|| find(rng, table, can_act)).unwrap_or(0);
+    let maker = find(rng, table, |record| record.can_act() && record.stock != 0);
+    let actor = maker
+        .or_else(|| find(rng, table, Record::can_act))
+        .unwrap_or(0);
     let stock = table.record(actor).stock;
     let mut request = in_range(rng, Code::Allocate, actor, 0);
     if let Request::Allocate { n, part, .. } = &mut request {
@@ -169,7 +166,5 @@ fn put_out_of_range(rng: &mut Rng, request: &mut Request) {
 
 /// Any number acts, most often one that cannot.
 fn let_another_act(rng: &mut Rng, request: &mut Request) {
-    if let Some((actor, _)) = bounded_fields(request).into_iter().next() {
-        *actor = rng.byte(0, 63);
-    }
+    *actor_mut(request) = rng.byte(0, 63);
 }

@@ -2,14 +2,15 @@
 
 use std::fmt;
 
+use yavrinks_model::step::Code;
+
 /// The numbers that calls give are 0 to 17.
 const NUMBERS: usize = 18;
 
 /// The lines of the summary, in order.
 #[derive(Clone, Copy, Debug, PartialEq, Eq)]
 pub enum Line {
-    /// A request by its code, from 1 to 8.
-    Code(u8),
+    Code(Code),
     OtherCode,
     NoRequest,
     Sound,
@@ -20,25 +21,24 @@ pub enum Line {
     Confine,
 }
 
+/// How many lines there are.
+const LINES: usize = 16;
+
 /// The names of the lines, in order of their place.
-const NAMES: [&str; 16] = [
-    "1 read",
-    "2 write",
-    "3 fetch",
-    "4 store",
-    "5 revoke",
-    "6 send",
-    "7 allocate",
-    "8 destroy",
-    "codes not 1 to 8",
-    "bytes of wrong length",
-    "soundness",
-    "potential access",
-    "confinement test",
-    "image written, read back",
-    "image read",
-    "confine",
-];
+fn names() -> Vec<String> {
+    let others = [
+        "codes not 1 to 8",
+        "bytes of wrong length",
+        "soundness",
+        "potential access",
+        "confinement test",
+        "image written, read back",
+        "image read",
+        "confine",
+    ];
+    let codes = Code::ALL.map(Code::label).into_iter();
+    codes.chain(others.map(String::from)).collect()
+}
 
 /// The lines of requests come before this one.
 const FIRST_OTHER: usize = 10;
@@ -46,7 +46,7 @@ const FIRST_OTHER: usize = 10;
 impl Line {
     fn place(self) -> usize {
         match self {
-            Line::Code(code) => usize::from(code) - 1,
+            Line::Code(code) => usize::from(code.number()) - 1,
             Line::OtherCode => 8,
             Line::NoRequest => 9,
             Line::Sound => FIRST_OTHER,
@@ -61,7 +61,7 @@ impl Line {
 
 /// How often each line had each number.
 #[derive(Clone, Debug, Default, PartialEq, Eq)]
-pub struct Counts([[u64; NUMBERS]; NAMES.len()]);
+pub struct Counts([[u64; NUMBERS]; LINES]);
 
 impl Counts {
     /// Counts one answer. No call gives a number above 17.
@@ -77,19 +77,12 @@ impl Counts {
 
 impl fmt::Display for Counts {
     fn fmt(&self, out: &mut fmt::Formatter<'_>) -> fmt::Result {
-        write_part(
-            out,
-            "requests by reply",
-            &NAMES[..FIRST_OTHER],
-            &self.0[..FIRST_OTHER],
-        )?;
+        let names = names();
+        let (requests, others) = names.split_at(FIRST_OTHER);
+        let (replies, numbers) = self.0.split_at(FIRST_OTHER);
+        write_part(out, "requests by reply", requests, replies)?;
         writeln!(out)?;
-        write_part(
-            out,
-            "other calls by number",
-            &NAMES[FIRST_OTHER..],
-            &self.0[FIRST_OTHER..],
-        )
+        write_part(out, "other calls by number", others, numbers)
     }
 }
 
@@ -97,7 +90,7 @@ impl fmt::Display for Counts {
 fn write_part(
     out: &mut fmt::Formatter<'_>,
     title: &str,
-    names: &[&str],
+    names: &[String],
     lines: &[[u64; NUMBERS]],
 ) -> fmt::Result {
     let sum = |number: &usize| lines.iter().map(|line| line[*number]).sum::<u64>();

@@ -1,9 +1,9 @@
 //! The tables that the requests run on: each starts sound or unsound, is changed by the requests, and
 //! some are damaged on the way.
 
-use yavrinks_model::generate::{any_damage, any_sound_table, sound_table, Shape};
-use yavrinks_model::rng::Rng;
 use yavrinks_model::table::{Capability, Table, ALL_RIGHTS, WR};
+use yavrinks_tools::generate::{any_damage, any_sound_table, sound_table, Shape};
+use yavrinks_tools::rng::Rng;
 
 use super::steps::Twin;
 use crate::samples::{busy_table, filled_table};

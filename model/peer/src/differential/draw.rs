@@ -1,10 +1,10 @@
 //! The bytes of a step: aimed requests, random ones, and bytes that are no request.
 
-use yavrinks_model::generate::{any_request, bounded_fields};
-use yavrinks_model::rng::Rng;
 use yavrinks_model::step::{Code, Request};
 use yavrinks_model::table::Table;
 use yavrinks_model::wire::{encode, request_in};
+use yavrinks_tools::generate::{any_request, bounded_fields};
+use yavrinks_tools::rng::Rng;
 
 use super::aim::{aimed, in_range, pair};
 use super::steps::Ask;

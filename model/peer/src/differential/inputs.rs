@@ -1,8 +1,8 @@
 //! Images and inputs of `confine`: right ones, aimed ones, and what damage makes of them.
 
-use yavrinks_model::generate::{confine_input, image_case, CONFINE_NUMBERS, IMAGE_NUMBERS};
 use yavrinks_model::image::{HEAD_LENGTH, IMAGE_LENGTH, RECORD_LENGTH};
-use yavrinks_model::rng::Rng;
+use yavrinks_tools::generate::{confine_input, image_case, CONFINE_NUMBERS, IMAGE_NUMBERS};
+use yavrinks_tools::rng::Rng;
 
 use super::draw::any_bytes;
 

@@ -16,12 +16,13 @@ pub use facts::{Compared, Difference};
 pub use steps::{compare_step, Ask, Twin};
 pub use wholes::{
     compare_access, compare_confine, compare_read, compare_sound, compare_test, compare_write,
-    number_of,
 };
 
 use std::process::ExitCode;
 
-use yavrinks_model::rng::Rng;
+use yavrinks_model::step::{Code, Request};
+use yavrinks_tools::progress::Progress;
+use yavrinks_tools::rng::Rng;
 
 use crate::archive::{Archive, Calls};
 use course::Course;
@@ -69,6 +70,7 @@ pub fn compare_requests(
 ) -> Result<(), Found> {
     let mut rng = Rng::new(seed);
     let mut course = Course::new(&mut rng);
+    let mut progress = Progress::new("differential: requests", requests);
     for k in 0..requests {
         let found = |difference| Found {
             place: format!("request {k}"),
@@ -79,6 +81,7 @@ pub fn compare_requests(
         let number = compare_step(calls, &mut course.twin, &ask).map_err(found)?;
         counts.add(line_of(&ask), number);
         if k % BETWEEN_SWEEPS == 0 {
+            progress.at(k);
             sweep(calls, &mut rng, &course.twin.model, counts).map_err(found)?;
         }
     }
@@ -87,8 +90,9 @@ pub fn compare_requests(
 
 /// The line of the summary that bytes belong to.
 fn line_of(ask: &Ask) -> Line {
-    match (&ask.request, ask.bytes.first()) {
-        (Some(request), _) if (1..=8).contains(&request.code()) => Line::Code(request.code()),
+    let asked = ask.request.as_ref().map(Request::code);
+    match (asked.and_then(Code::of), ask.bytes.first()) {
+        (Some(code), _) => Line::Code(code),
         (_, Some(1..=8) | None) => Line::NoRequest,
         _ => Line::OtherCode,
     }
@@ -104,7 +108,9 @@ pub fn compare_inputs(
     // Another seed than that of the requests, which does not depend on how many they are.
     let mut rng = Rng::new(!seed);
     let (mut images, mut sources) = (Source::images(), Source::confine_inputs());
+    let mut progress = Progress::new("differential: images and inputs of confine", inputs);
     for k in 0..inputs {
+        progress.at(k);
         let found = |what: &'static str| {
             move |difference| Found {
                 place: format!("{what} {k}"),

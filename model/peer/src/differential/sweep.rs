@@ -1,9 +1,9 @@
 //! All calls but the step, on the table as it is and on tables that are aimed at each number.
 
-use yavrinks_model::generate::{confinement_case, damaged_table};
-use yavrinks_model::generate::{ConfinementCase, Damage, CONFINEMENT_NUMBERS};
-use yavrinks_model::rng::Rng;
 use yavrinks_model::table::Table;
+use yavrinks_tools::generate::{confinement_case, damaged_table};
+use yavrinks_tools::generate::{ConfinementCase, Damage, CONFINEMENT_NUMBERS};
+use yavrinks_tools::rng::Rng;
 
 use super::counts::{Counts, Line};
 use super::course::put_anything;

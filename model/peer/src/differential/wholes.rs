@@ -2,11 +2,14 @@
 //! and what `confine` prints, each on the same input in the model and in the archive.
 
 use captable::raw;
-use yavrinks_model::access::{potential_access, Access};
+use yavrinks_model::access::potential_access;
 use yavrinks_model::confine::confine;
-use yavrinks_model::confinement::{confinement_test, Entry};
+use yavrinks_model::confinement::confinement_test;
 use yavrinks_model::image;
 use yavrinks_model::table::Table;
+use yavrinks_model::wire::decode_list;
+use yavrinks_tools::generate::printed_number;
+use yavrinks_tools::rows::rows;
 
 use super::facts::{same, Compared, Facts};
 use crate::archive::Calls;
@@ -40,19 +43,6 @@ pub fn compare_sound(calls: &impl Calls, table: &Table) -> Compared<u8> {
     Ok(number)
 }
 
-/// The rows of a relation: the one at 64 * right + holder has the targets.
-fn rows_of(access: &Access) -> [u64; 256] {
-    let mut rows = [0; 256];
-    for (x, rights_of_x) in access.rights.iter().enumerate() {
-        for (y, rights) in rights_of_x.iter().enumerate() {
-            for right in 0..4 {
-                rows[64 * right + x] |= u64::from(rights >> right & 1) << y;
-            }
-        }
-    }
-    rows
-}
-
 /// Potential access, all 256 rows.
 pub fn compare_access(calls: &impl Calls, table: &Table) -> Compared<u8> {
     let given = to_raw(table);
@@ -68,24 +58,16 @@ pub fn compare_access(calls: &impl Calls, table: &Table) -> Compared<u8> {
     same(
         "captable_access",
         || Facts::new().table("table", &given),
-        facts(number, &rows_of(&access), &given),
+        facts(number, &rows(&access), &given),
         facts(found.number, &found.rows, &lent),
     )?;
     Ok(number)
 }
 
-/// The list that bytes are. Bytes of odd length are no list, and count as one that is too long.
-fn entries_of(bytes: &[u8]) -> Vec<Entry> {
-    if !bytes.len().is_multiple_of(2) {
-        return vec![(0, 0); 9];
-    }
-    bytes.chunks_exact(2).map(|two| (two[0], two[1])).collect()
-}
-
 /// The confinement test of any members and any bytes of a list.
 pub fn compare_test(calls: &impl Calls, table: &Table, members: u64, list: &[u8]) -> Compared<u8> {
     let given = to_raw(table);
-    let (number, bound) = confinement_test(table, members, &entries_of(list));
+    let (number, bound) = confinement_test(table, members, &decode_list(list));
     let (mut lent, mut bytes) = (given, Box::<[u8]>::from(list));
     let found = calls.test(&mut lent, members, &mut bytes);
     let facts = |number: u8, bound: u64, table: &raw::Table, bytes: &[u8]| {
@@ -176,13 +158,5 @@ pub fn compare_confine(calls: &impl Calls, input: &[u8], buffer: &[u8; 256]) -> 
         facts(text.len(), &expected, input),
         facts(count, &*found, &lent),
     )?;
-    Ok(number_of(&text))
-}
-
-/// The number of a text that `confine` prints: 0 for `accepted`.
-pub fn number_of(text: &str) -> u8 {
-    text.trim()
-        .strip_prefix("refused ")
-        .and_then(|number| number.parse().ok())
-        .unwrap_or(0)
+    Ok(printed_number(&text))
 }

@@ -5,10 +5,10 @@ use std::arch::asm;
 use std::mem::{size_of, size_of_val};
 
 use captable::raw;
+use yavrinks_tools::generate::printed_number;
 
 use crate::calls::{Call, Sample};
 use crate::convert::to_raw;
-use crate::differential::number_of;
 
 /// The length of the stack: far more than any call should take.
 const LENGTH: usize = 1 << 20;
@@ -57,7 +57,7 @@ fn taken(call: Call, sample: &Sample, pattern: u8) -> Option<usize> {
         Call::Stepped | Call::Access | Call::Read => result[NUMBER_AT],
         Call::Confine => {
             let count = usize::try_from(registers[0]).map_or(0, |count| count.min(256));
-            number_of(&String::from_utf8_lossy(&result[..count]))
+            printed_number(&String::from_utf8_lossy(&result[..count]))
         }
     };
     (number == sample.number).then(|| depth(&stack, pattern))

@@ -1,0 +1,158 @@
+//! The command `program`: runs a built program `confine` on many inputs, each as a process of its
+//! own, and compares what it prints with the test vectors and with the model.
+
+use std::fs;
+use std::io::{self, Write};
+use std::path::Path;
+use std::process::{Command, ExitCode, Output, Stdio};
+
+use crate::generate::{confine_input, CONFINE_NUMBERS};
+use crate::progress::Progress;
+use crate::rng::Rng;
+use yavrinks_model::confine::confine;
+
+/// Random inputs for each number that the program can give.
+const EACH: usize = 40;
+/// The count byte of an input, and the length of the longest input that can be right.
+const COUNT_AT: usize = 1931;
+const LONGEST: usize = 1932 + 2 * 255;
+
+/// An input and what must be printed for it.
+struct Case {
+    name: String,
+    input: Vec<u8>,
+    expected: Vec<u8>,
+}
+
+/// Runs the command. The exit status is 0 if every output is as expected and 1 if not.
+pub fn command(program: &str) -> ExitCode {
+    match compare(program) {
+        Ok(0) => ExitCode::SUCCESS,
+        Ok(_) => ExitCode::FAILURE,
+        Err(error) => {
+            eprintln!("yavrinks-tools program: {program}: {error}");
+            ExitCode::FAILURE
+        }
+    }
+}
+
+/// Prints a line for each group of inputs; gives the number of differences.
+fn compare(program: &str) -> io::Result<usize> {
+    let groups = [
+        ("test vectors", vector_cases()?),
+        ("random inputs", random_cases(&mut Rng::new(0xC0F1E))),
+        ("odd lengths", odd_cases()),
+    ];
+    let mut output = io::stdout();
+    let (mut done, mut differences) = (0, 0);
+    let all = groups.iter().map(|(_, cases)| cases.len() as u64).sum();
+    let mut progress = Progress::new("program: inputs", all);
+    for (name, cases) in &groups {
+        for case in cases {
+            let printed = run(Command::new(program), &case.input)?;
+            differences += report(case, &printed)?;
+            done += 1;
+            progress.at(done);
+        }
+        writeln!(output, "{name:14} {:4} inputs", cases.len())?;
+    }
+    let case = model_case("a closed standard input", Vec::new());
+    let mut shell = Command::new("sh");
+    shell.args(["-c", "exec \"$0\" <&-", program]);
+    differences += report(&case, &run(shell, &[])?)?;
+    writeln!(output, "{:14} {:4} input", "closed input", 1)?;
+    writeln!(output, "{differences} differences")?;
+    Ok(differences)
+}
+
+fn run(mut command: Command, input: &[u8]) -> io::Result<Output> {
+    let mut child = command
+        .stdin(Stdio::piped())
+        .stdout(Stdio::piped())
+        .spawn()?;
+    let pipe = child.stdin.take();
+    std::thread::scope(|scope| {
+        // The program may stop reading once an input is too long, so a failed write is no fault.
+        scope.spawn(move || pipe.map(|mut pipe| pipe.write_all(input)));
+        child.wait_with_output()
+    })
+}
+
+/// 1, with both texts printed, if the program printed something else or failed.
+fn report(case: &Case, output: &Output) -> io::Result<usize> {
+    if output.status.success() && output.stdout == case.expected {
+        return Ok(0);
+    }
+    let printed = String::from_utf8_lossy(&output.stdout);
+    let expected = String::from_utf8_lossy(&case.expected);
+    let status = output.status;
+    let name = &case.name;
+    writeln!(
+        io::stdout(),
+        "{name}: expected {expected:?}, printed {printed:?}, {status}"
+    )?;
+    Ok(1)
+}
+
+fn vector_cases() -> io::Result<Vec<Case>> {
+    let folder = Path::new(env!("CARGO_MANIFEST_DIR")).join("../vectors/confine");
+    let mut cases = Vec::new();
+    for entry in fs::read_dir(folder)? {
+        let path = entry?.path();
+        if path.extension().is_some_and(|extension| extension == "in") {
+            cases.push(Case {
+                name: path.display().to_string(),
+                input: fs::read(&path)?,
+                expected: fs::read(path.with_extension("out"))?,
+            });
+        }
+    }
+    Ok(cases)
+}
+
+fn model_case(name: impl Into<String>, input: Vec<u8>) -> Case {
+    Case {
+        name: name.into(),
+        expected: confine(&input).into_bytes(),
+        input,
+    }
+}
+
+fn random_cases(rng: &mut Rng) -> Vec<Case> {
+    let mut cases = Vec::new();
+    for number in CONFINE_NUMBERS {
+        for place in 0..EACH {
+            let name = format!("random input {place} for {number}");
+            cases.push(model_case(name, confine_input(rng, number)));
+        }
+    }
+    cases
+}
+
+/// Lengths at which a reader could go wrong, up to a megabyte.
+fn odd_cases() -> Vec<Case> {
+    let mut rng = Rng::new(0x0DD);
+    let right = confine_input(&mut rng, 0);
+    let mut cases = Vec::new();
+    for length in [
+        0,
+        1,
+        2,
+        1922,
+        1923,
+        COUNT_AT,
+        COUNT_AT + 1,
+        LONGEST,
+        LONGEST + 1,
+        1 << 20,
+    ] {
+        let mut input = right.clone();
+        input.resize(length, 0);
+        if length > COUNT_AT {
+            input[COUNT_AT] = 255;
+        }
+        cases.push(model_case(format!("{length} bytes"), input));
+        cases.push(model_case(format!("{length} zeros"), vec![0; length]));
+    }
+    cases
+}

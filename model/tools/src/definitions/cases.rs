@@ -1,0 +1,195 @@
+//! The cases: what the definitions are asked, and what the model answers.
+//! Every expected value is computed here, by the model.
+
+use crate::generate::ConfinementCase;
+use crate::rows::rows;
+use yavrinks_model::access::potential_access;
+use yavrinks_model::confinement::{confinement_test, Entry, MAX_ENTRIES};
+use yavrinks_model::image::{read, write};
+use yavrinks_model::runs::{clean_at_start, clean_part, run, CleanPart};
+use yavrinks_model::step::{step, Code, Request};
+use yavrinks_model::table::Table;
+use yavrinks_model::wire;
+
+/// What is asked of the clean objects along a run.
+#[derive(Clone, Copy, Debug, PartialEq, Eq)]
+pub enum Part {
+    AtStart,
+    AtEnd,
+    Requests,
+    Replies,
+}
+
+impl Part {
+    pub const ALL: [Part; 4] = [Part::AtStart, Part::AtEnd, Part::Requests, Part::Replies];
+}
+
+/// What is asked.
+#[derive(Clone, Debug, PartialEq, Eq)]
+pub enum Question {
+    /// The clean objects along a run from an accepted test, their requests and the replies to these.
+    Clean {
+        start: ConfinementCase,
+        requests: Vec<Request>,
+        parts: Vec<Part>,
+    },
+    Step {
+        table: Table,
+        request: Request,
+    },
+    Run {
+        table: Table,
+        requests: Vec<Request>,
+    },
+    Test(ConfinementCase),
+    Access {
+        table: Table,
+    },
+    Read {
+        image: Vec<u8>,
+    },
+    Write {
+        table: Table,
+        buffer: Vec<u8>,
+    },
+    /// Which request bytes are.
+    RequestBytes {
+        bytes: Vec<u8>,
+    },
+    /// Which list of a test bytes are.
+    ListBytes {
+        bytes: Vec<u8>,
+    },
+}
+
+/// What is answered: a number, 0 for done, and what comes with it.
+#[derive(Clone, Debug, PartialEq, Eq)]
+pub enum Answer {
+    /// The clean objects at the start, and what they have of the run.
+    Clean(u64, CleanPart),
+    Table(u8, Table),
+    /// The replies of a run and its last table.
+    Run(Vec<u8>, Table),
+    Bound(u8, u64),
+    /// The rows of a relation.
+    Rows(u8, Vec<u64>),
+    Buffer(u8, Vec<u8>),
+    /// A request; one without fields counts as refused by 2.
+    Ask(Request),
+    /// A list; one that is too long counts as refused by 11.
+    Entries(Vec<Entry>),
+}
+
+/// A question with the answer that the definitions have to give.
+#[derive(Clone, Debug, PartialEq, Eq)]
+pub struct Case {
+    pub question: Question,
+    pub answer: Answer,
+}
+
+impl Case {
+    /// The case with the model's answer.
+    pub fn new(question: Question) -> Case {
+        let answer = question.answer();
+        Case { question, answer }
+    }
+}
+
+const CLEAN: &str = "clean along a run";
+const UNKNOWN: &str = "unknown code";
+const RUN: &str = "run, last reply";
+const TEST: &str = "confinement test";
+const ACCESS: &str = "potential access";
+const READ: &str = "image read";
+const WRITTEN: &str = "image written";
+const REQUEST_BYTES: &str = "request as bytes";
+const LIST_BYTES: &str = "list as bytes";
+
+/// Everything that can be asked, in the order of the summary.
+pub fn subjects() -> Vec<String> {
+    let mut subjects = vec![CLEAN.to_string()];
+    subjects.extend(Code::ALL.map(Code::label));
+    let others = [UNKNOWN, RUN, TEST, ACCESS, READ, WRITTEN];
+    let bytes = [REQUEST_BYTES, LIST_BYTES];
+    subjects.extend(others.into_iter().chain(bytes).map(String::from));
+    subjects
+}
+
+impl Question {
+    /// The model's answer.
+    fn answer(&self) -> Answer {
+        match self {
+            Question::Clean {
+                start, requests, ..
+            } => clean_answer(start, requests),
+            Question::Step { table, request } => {
+                let (reply, after) = step(table, request);
+                Answer::Table(reply, after)
+            }
+            Question::Run { table, requests } => {
+                let (replies, after) = run(table, requests);
+                Answer::Run(replies, after)
+            }
+            Question::Test(case) => {
+                let (number, bound) = confinement_test(&case.table, case.members, &case.list);
+                Answer::Bound(number, bound)
+            }
+            Question::Access { table } => {
+                let (number, access) = potential_access(table);
+                Answer::Rows(number, rows(&access))
+            }
+            Question::Read { image } => {
+                let (number, table) = read(image);
+                Answer::Table(number, table)
+            }
+            Question::Write { table, buffer } => {
+                let mut written = buffer.clone();
+                let number = write(table, &mut written);
+                Answer::Buffer(number, written)
+            }
+            Question::RequestBytes { bytes } => Answer::Ask(wire::decode(bytes)),
+            Question::ListBytes { bytes } => Answer::Entries(wire::decode_list(bytes)),
+        }
+    }
+
+    /// Which of the subjects is asked.
+    pub fn subject(&self) -> String {
+        let subject = match self {
+            Question::Clean { .. } => CLEAN,
+            Question::Step { request, .. } => match Code::of(request.code()) {
+                Some(code) => return code.label(),
+                None => UNKNOWN,
+            },
+            Question::Run { .. } => RUN,
+            Question::Test { .. } => TEST,
+            Question::Access { .. } => ACCESS,
+            Question::Read { .. } => READ,
+            Question::Write { .. } => WRITTEN,
+            Question::RequestBytes { .. } => REQUEST_BYTES,
+            Question::ListBytes { .. } => LIST_BYTES,
+        };
+        subject.to_string()
+    }
+}
+
+impl Answer {
+    /// The number that is answered; of a run, that of its last request.
+    pub fn number(&self) -> u8 {
+        match self {
+            Answer::Table(number, _)
+            | Answer::Bound(number, _)
+            | Answer::Rows(number, _)
+            | Answer::Buffer(number, _) => *number,
+            Answer::Run(replies, _) => replies.last().copied().unwrap_or(0),
+            Answer::Ask(Request::Unknown { .. }) => 2,
+            Answer::Entries(list) if list.len() > MAX_ENTRIES => 11,
+            Answer::Clean(..) | Answer::Ask(_) | Answer::Entries(_) => 0,
+        }
+    }
+}
+
+fn clean_answer(start: &ConfinementCase, requests: &[Request]) -> Answer {
+    let (_, bound) = confinement_test(&start.table, start.members, &start.list);
+    let clean = clean_at_start(&start.table, start.members, bound);
+    Answer::Clean(clean, clean_part(&start.table, clean, requests))
+}

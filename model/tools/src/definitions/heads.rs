@@ -1,0 +1,58 @@
+//! The first lines of a module of cases: the names that its statements use, and short words for the
+//! values of the model.
+
+/// The crates that the statements are about. What these stand on comes with them.
+pub const CRATES: [&str; 3] = ["isolation", "image", "wire"];
+
+pub const HEAD: &str = "\
+-- Answers of the model, which the definitions have to give too.
+use mathlib.Core.Path.{_≡_, refl}
+use mathlib.Core.List.{List, [], _∷_, map}
+use Prim.Native.Nat.{ℕ}
+use Rattle.mask.specs.Sets.{bits}
+use Rattle.table.specs.declared.Capability.{Capability}
+use Rattle.table.specs.declared.Record.{Record}
+use Rattle.table.specs.declared.Table.{Table}
+use Rattle.requests.specs.declared.Pair.{Pair}
+use Rattle.requests.specs.Asks.{Ask, read, write, fetch, store, revoke, send, allocate, destroy, unknown}
+use Rattle.refusals.specs.Replies.{number}
+use Rattle.steps.specs.declared.Stepped.{Stepped}
+use Rattle.steps.specs.Steps.{stepOf, runTable, runReplies}
+use Rattle.access.specs.declared.Access.{Access}
+use Rattle.access.specs.Answers.{accessOf, accessNumber}
+use Rattle.confinement.specs.declared.Tested.{Tested}
+use Rattle.confinement.specs.Refusals.{verdictNumber}
+use Rattle.confinement.specs.Tests.{testOf}
+use Rattle.image.specs.declared.Loaded.{Loaded}
+use Rattle.image.specs.Images.{readNumber, readOf, writeNumber, writeRefusal, writtenOf}
+use Rattle.wire.specs.Wires.{askFrom}
+use Rattle.wire.specs.Entries.{entriesIn}
+use Rattle.isolation.specs.Clean.{cleanAtStart, cleanAtEnd, cleanRequests, cleanReplies}
+
+abbrev object : ℕ → ℕ → ℕ → ℕ → Record
+object status kind word stock = record { status = status; kind = kind; word = word; stock = stock }
+
+abbrev unborn : Record
+unborn = object 0 0 0 0
+
+abbrev slot : ℕ → ℕ → Capability
+slot target rights = record { target = target; rights = rights }
+
+abbrev free : Capability
+free = slot 0 0
+
+abbrev pair : ℕ → ℕ → Pair
+pair from to = record { from = from; to = to }
+
+abbrev stepped : Stepped → ℕ × Table
+stepped s = (number (s .reply), s .table)
+
+abbrev tested : Tested → ℕ × ℕ
+tested t = (verdictNumber (t .verdict), t .bound)
+
+abbrev related : Access → ℕ × List ℕ
+related a = (accessNumber (a .reply), a .rows)
+
+abbrev loaded : Loaded → ℕ × Table
+loaded l = (readNumber (l .reply), l .table)
+";

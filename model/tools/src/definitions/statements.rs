@@ -1,0 +1,186 @@
+//! A case as declarations of antt: its values under names of their own, then the statement that
+//! the definition gives the expected answer. The checker proves it by computing the definition.
+
+use super::cases::{Answer, Case, Part, Question};
+use super::terms;
+use crate::generate::ConfinementCase;
+use yavrinks_model::runs::CleanPart;
+use yavrinks_model::step::Request;
+use yavrinks_model::table::Table;
+
+/// The declarations of a case. `unfolding` are the names that the checker has to look into.
+pub fn declarations(case: &Case, number: usize, unfolding: &str) -> String {
+    let outcome = match case.answer.number() {
+        0 => "done".into(),
+        number => format!("refused {number}"),
+    };
+    let mut writer = Writer {
+        number,
+        unfolding,
+        own: Vec::new(),
+        text: format!("-- case {number}: {}, {outcome}\n", case.question.subject()),
+    };
+    let asked = writer.question(&case.question);
+    let (kind, expected) = writer.answer(&case.question, &case.answer);
+    writer.computes(&kind, &asked, &expected);
+    writer.text
+}
+
+/// The declarations of one case, as far as they are written.
+struct Writer<'a> {
+    number: usize,
+    unfolding: &'a str,
+    /// The names of the values above, which the statement has to look into too.
+    own: Vec<String>,
+    text: String,
+}
+
+impl Writer<'_> {
+    /// Declares the values of a question, and gives the term that answers it.
+    fn question(&mut self, question: &Question) -> String {
+        match question {
+            Question::Clean {
+                start,
+                requests,
+                parts,
+            } => self.clean(start, requests, parts),
+            Question::Step { table, request } => {
+                let table = self.table("table", table);
+                format!("stepped (stepOf {table} ({}))", terms::ask(request))
+            }
+            Question::Run { table, requests } => {
+                let table = self.table("table", table);
+                let asks = self.asks("requests", requests);
+                format!("map number (runReplies {table} {asks}), runTable {table} {asks}")
+            }
+            Question::Test(case) => format!("tested (testOf {})", self.test(case)),
+            Question::Access { table } => {
+                format!("related (accessOf {})", self.table("table", table))
+            }
+            Question::Read { image } => format!("loaded (readOf {})", self.bytes("image", image)),
+            Question::Write { table, buffer } => {
+                let table = self.table("table", table);
+                let buffer = self.bytes("buffer", buffer);
+                format!("writeNumber (writeRefusal {table} {buffer}), writtenOf {table} {buffer}")
+            }
+            Question::RequestBytes { bytes } => format!("askFrom {}", self.bytes("bytes", bytes)),
+            Question::ListBytes { bytes } => format!("entriesIn {}", self.bytes("bytes", bytes)),
+        }
+    }
+
+    /// Declares table and list of a test, and gives the arguments that a definition of it takes.
+    fn test(&mut self, case: &ConfinementCase) -> String {
+        let table = self.table("table", &case.table);
+        let list = self.value("list", "List Capability", &terms::entries(&case.list));
+        format!("{table} {} {list}", case.members)
+    }
+
+    /// The definitions of clean objects, as one term: the checker then computes what they share once.
+    fn clean(&mut self, start: &ConfinementCase, requests: &[Request], parts: &[Part]) -> String {
+        let at_start = format!("cleanAtStart {}", self.test(start));
+        let (table, asks) = (self.name("table"), self.asks("requests", requests));
+        let from = format!("{table} ({at_start}) {asks}");
+        let term = |part: &Part| match part {
+            Part::AtStart => format!("bits 64 ({at_start})"),
+            Part::AtEnd => format!("bits 64 (cleanAtEnd {from})"),
+            Part::Requests => format!("cleanRequests {from}"),
+            Part::Replies => format!("map number (cleanReplies {from})"),
+        };
+        parts.iter().map(term).collect::<Vec<_>>().join(", ")
+    }
+
+    /// The types of the same, and what they are to compute to.
+    fn clean_answer(&mut self, parts: &[Part], start: u64, along: &CleanPart) -> (String, String) {
+        let (mut kinds, mut expected) = (Vec::new(), Vec::new());
+        for part in parts {
+            let (kind, term) = match part {
+                Part::AtStart => ("ℕ", start.to_string()),
+                Part::AtEnd => ("ℕ", along.clean.to_string()),
+                Part::Requests => ("List Ask", self.asks("asked", &along.requests)),
+                Part::Replies => ("List ℕ", terms::bytes(&along.replies)),
+            };
+            kinds.push(kind);
+            expected.push(term);
+        }
+        (kinds.join(" × "), format!("({})", expected.join(", ")))
+    }
+
+    /// Declares the values of an answer, and gives its type and its term.
+    fn answer(&mut self, question: &Question, answer: &Answer) -> (String, String) {
+        let (kind, term) = match answer {
+            Answer::Clean(start, along) => {
+                let parts = match question {
+                    Question::Clean { parts, .. } => parts.as_slice(),
+                    _ => &[],
+                };
+                return self.clean_answer(parts, *start, along);
+            }
+            Answer::Table(number, table) => {
+                let table = self.table_after(question, table);
+                ("ℕ × Table", format!("({number}, {table})"))
+            }
+            Answer::Run(replies, table) => {
+                let replies = terms::bytes(replies);
+                let table = self.table_after(question, table);
+                ("List ℕ × Table", format!("({replies}, {table})"))
+            }
+            Answer::Bound(number, bound) => ("ℕ × ℕ", format!("({number}, {bound})")),
+            Answer::Rows(number, rows) => {
+                let rows = terms::numbers(rows.iter().copied());
+                let rows = self.value("rows", "List ℕ", &rows);
+                ("ℕ × List ℕ", format!("({number}, {rows})"))
+            }
+            Answer::Buffer(number, buffer) => {
+                let buffer = self.bytes("after", buffer);
+                ("ℕ × List ℕ", format!("({number}, {buffer})"))
+            }
+            Answer::Ask(request) => ("Ask", format!("({})", terms::ask(request))),
+            Answer::Entries(list) => ("List Capability", format!("({})", terms::entries(list))),
+        };
+        (kind.to_string(), term)
+    }
+
+    fn name(&self, stem: &str) -> String {
+        format!("{stem}-{:04}", self.number)
+    }
+
+    /// Declares a value, and gives its name.
+    fn value(&mut self, stem: &str, kind: &str, term: &str) -> String {
+        let name = self.name(stem);
+        self.text += &format!("{name} : {kind}\n{name} = {term}\n\n");
+        self.own.push(name.clone());
+        name
+    }
+
+    fn table(&mut self, stem: &str, table: &Table) -> String {
+        self.value(stem, "Table", &terms::table(table))
+    }
+
+    fn asks(&mut self, stem: &str, requests: &[Request]) -> String {
+        self.value(stem, "List Ask", &terms::asks(requests))
+    }
+
+    fn bytes(&mut self, stem: &str, bytes: &[u8]) -> String {
+        self.value(stem, "List ℕ", &terms::bytes(bytes))
+    }
+
+    /// Declares the table of an answer, unless the question has the same one.
+    fn table_after(&mut self, question: &Question, after: &Table) -> String {
+        match question {
+            Question::Step { table, .. } | Question::Run { table, .. } if table == after => {
+                self.name("table")
+            }
+            _ => self.table("after", after),
+        }
+    }
+
+    /// States that a term computes to another. `refl` gets all its arguments: the checker then
+    /// computes the term once, where it would do so again for each argument that it has to find.
+    fn computes(&mut self, kind: &str, term: &str, expected: &str) {
+        let name = self.name("case");
+        let (own, unfolding) = (self.own.join(" "), self.unfolding);
+        self.text += &format!("{name} : _≡_ {{A = {kind}}} ({term}) {expected}\n");
+        self.text += &format!("unfolding {own} {unfolding}\n");
+        self.text += &format!("{name} = refl {{0}} {{A = {kind}}} {{a = {expected}}}\n\n");
+    }
+}

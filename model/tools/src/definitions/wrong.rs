@@ -1,0 +1,126 @@
+//! Wrong answers on purpose. The checker has to refuse each of them: a statement that it would
+//! accept with any answer checks nothing.
+
+use super::cases::{Answer, Case, Part, Question};
+use crate::rng::Rng;
+use std::mem::discriminant;
+use yavrinks_model::runs::CleanPart;
+use yavrinks_model::step::Request;
+use yavrinks_model::table::Table;
+
+/// For every kind of question, a case with a wrong number and one with a right number and wrong
+/// content, as far as the given cases have such; of clean objects, one for each part that is asked.
+pub fn wrong_cases(rng: &mut Rng, cases: &[Case]) -> Vec<Case> {
+    let mut wrong = Vec::new();
+    let mut seen = Vec::new();
+    for case in cases {
+        let kind = (discriminant(&case.question), case.answer.number() == 0);
+        if !seen.contains(&kind) && !is_silent(&case.answer) {
+            seen.push(kind);
+            wrong.extend(made_wrong(rng, case));
+        }
+    }
+    wrong
+}
+
+/// Whether no clean object asked anything along a run.
+fn is_silent(answer: &Answer) -> bool {
+    matches!(answer, Answer::Clean(_, along) if along.replies.is_empty())
+}
+
+fn made_wrong(rng: &mut Rng, case: &Case) -> Vec<Case> {
+    match &case.answer {
+        Answer::Clean(start, along) => {
+            let parts = Part::ALL.iter();
+            parts
+                .map(|part| wrong_part(case, *part, *start, along))
+                .collect()
+        }
+        answer if answer.number() == 0 => vec![with_answer(case, other_content(rng, answer))],
+        answer => vec![with_answer(case, other_number(answer))],
+    }
+}
+
+fn with_answer(case: &Case, answer: Answer) -> Case {
+    Case {
+        question: case.question.clone(),
+        answer,
+    }
+}
+
+fn other_number(answer: &Answer) -> Answer {
+    let other = answer.number() + 1;
+    let mut answer = answer.clone();
+    match &mut answer {
+        Answer::Table(number, _)
+        | Answer::Bound(number, _)
+        | Answer::Rows(number, _)
+        | Answer::Buffer(number, _) => *number = other,
+        Answer::Run(replies, _) => {
+            if let Some(reply) = replies.last_mut() {
+                *reply = other;
+            }
+        }
+        Answer::Ask(request) => *request = Request::Read { actor: 0, t: 0 },
+        Answer::Entries(list) => list.push((0, 0)),
+        Answer::Clean(start, _) => *start ^= 1,
+    }
+    answer
+}
+
+fn other_content(rng: &mut Rng, answer: &Answer) -> Answer {
+    let mut answer = answer.clone();
+    match &mut answer {
+        Answer::Table(_, table) | Answer::Run(_, table) => change_table(rng, table),
+        Answer::Bound(_, bound) => *bound ^= 1 << rng.between(0, 63),
+        Answer::Rows(_, rows) => {
+            let row = rng.between(0, rows.len() as u64 - 1) as usize;
+            rows[row] ^= 1 << rng.between(0, 63);
+        }
+        Answer::Buffer(_, bytes) => {
+            let place = rng.between(0, bytes.len() as u64 - 1) as usize;
+            bytes[place] ^= rng.byte(1, 255);
+        }
+        Answer::Ask(request) => {
+            let actor = request.actor();
+            *request = Request::Unknown { code: 0, actor };
+        }
+        Answer::Entries(list) => list.push((0, 0)),
+        Answer::Clean(start, _) => *start ^= 1,
+    }
+    answer
+}
+
+/// One part of what is asked of clean objects, alone, since the checker takes long to refuse several
+/// at once: another clean object, a request left out, or another reply.
+fn wrong_part(case: &Case, part: Part, mut start: u64, along: &CleanPart) -> Case {
+    let mut question = case.question.clone();
+    if let Question::Clean { parts, .. } = &mut question {
+        *parts = vec![part];
+    }
+    let mut along = along.clone();
+    match part {
+        Part::AtStart => start ^= 1,
+        Part::AtEnd => along.clean ^= 1,
+        Part::Requests => drop(along.requests.remove(0)),
+        Part::Replies => along.replies[0] += 1,
+    }
+    Case {
+        question,
+        answer: Answer::Clean(start, along),
+    }
+}
+
+/// Changes one field of one record.
+fn change_table(rng: &mut Rng, table: &mut Table) {
+    let record = table.record_mut(rng.byte(0, 63));
+    let slot = &mut record.slots[rng.between(0, 7) as usize];
+    match rng.between(0, 5) {
+        0 => record.status ^= 1,
+        1 => record.kind ^= 1,
+        2 => record.word ^= 1 << rng.between(0, 31),
+        3 => record.stock ^= 1 << rng.between(0, 63),
+        4 => slot.target ^= 1 << rng.between(0, 7),
+        _ => slot.rights ^= 1 << rng.between(0, 7),
+    }
+}

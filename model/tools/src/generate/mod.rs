@@ -1,0 +1,19 @@
+//! Random tables, requests, tests, images and inputs, each aimed at a chosen outcome.
+//! All of it follows from the seed of the generator that is lent to it.
+
+mod confinement;
+mod images;
+mod requests;
+mod tables;
+
+pub use confinement::{confinement_case, ConfinementCase, CONFINEMENT_NUMBERS};
+pub use images::{
+    confine_input, encode_input, image_case, printed_number, CONFINE_NUMBERS, IMAGE_NUMBERS,
+    INPUT_COUNT_AT,
+};
+pub use requests::{
+    actor_mut, any_request, bounded_fields, can_meet, likely_request, step_case, StepCase,
+};
+pub use tables::{
+    any_damage, any_sound_table, damage, damaged_table, numbers_where, sound_table, Damage, Shape,
+};

@@ -1,0 +1,13 @@
+//! What uses the reference model: random cases aimed at every outcome, and the commands that hold the
+//! definitions, the proved programs and demand 3 to it.
+
+#![forbid(unsafe_code)]
+
+pub mod built_program;
+pub mod definitions;
+pub mod generate;
+pub mod progress;
+pub mod rng;
+pub mod rows;
+pub mod two_runs;
+pub mod vectors;

@@ -1,0 +1,139 @@
+//! The confinement test under given rules. The checks are the model's, but for the holders at 13;
+//! the bound is worked here, since most of the broken rules are about it.
+
+use super::rules::{Access, Holders, Rules, StandIn};
+use yavrinks_model::access::Relation;
+use yavrinks_model::confinement::{self, Entry};
+use yavrinks_model::refusal::Refusal;
+use yavrinks_model::set;
+use yavrinks_model::table::{Capability, Record, Table};
+use yavrinks_model::table::{ALL_RIGHTS, OBJECTS, RD, TX, WK, WR};
+
+/// The point of the stand-in, after the 64 numbers.
+const STAND_IN: usize = OBJECTS;
+/// The points of the relation that gives the bound.
+const POINTS: usize = OBJECTS + 1;
+
+impl Rules {
+    /// The test: 0 and the bound, or the refusal number and an empty bound.
+    pub fn confinement_test(&self, table: &Table, members: u64, list: &[Entry]) -> (u8, u64) {
+        let (number, _) = confinement::confinement_test(table, members, list);
+        // Check 13 is the last one, so that without it the test accepts.
+        let skipped = number == Refusal::MemberNamedOutside.number()
+            && self.holders == Holders::Active
+            && !active_holder_names_member(table, members);
+        if number == 0 || skipped {
+            (0, self.bound(table, members, list))
+        } else {
+            (number, 0)
+        }
+    }
+
+    /// The bound for a test that is accepted.
+    pub fn bound(&self, table: &Table, members: u64, list: &[Entry]) -> u64 {
+        let mut relation = self.held_rights(table, members, list);
+        let mut over_itself = [0; POINTS];
+        for n in set::numbers(!members).filter(|&n| table.is_born(n)) {
+            let n = usize::from(n);
+            over_itself[n] = relation.rights[n][n];
+            relation.add(n, n, ALL_RIGHTS);
+        }
+        relation.add(STAND_IN, STAND_IN, ALL_RIGHTS);
+        self.saturate(&mut relation, &over_itself);
+        let influenced = relation.influenced_points(STAND_IN);
+        set::of(set::numbers(!members).filter(|&n| influenced[usize::from(n)]))
+    }
+
+    /// The rights that non-members and the stand-in hold in slots or by the list.
+    fn held_rights(&self, table: &Table, members: u64, list: &[Entry]) -> Relation<POINTS> {
+        let mut relation = Relation::none();
+        for n in set::numbers(!members) {
+            for held in outside_capabilities(table.record(n), members) {
+                let rights = self.rights_in_bound(held.rights);
+                relation.add(usize::from(n), usize::from(held.target), rights);
+            }
+        }
+        for (target, rights) in self.held_by_stand_in(table, members, list) {
+            let rights = self.rights_in_bound(rights);
+            relation.add(STAND_IN, usize::from(target), rights);
+        }
+        relation
+    }
+
+    fn rights_in_bound(&self, rights: u8) -> u8 {
+        if self.access == Access::ReadLikeWk && rights & RD != 0 {
+            rights & !RD | WK
+        } else {
+            rights
+        }
+    }
+
+    fn held_by_stand_in(&self, table: &Table, members: u64, list: &[Entry]) -> Vec<Entry> {
+        match self.stand_in {
+            StandIn::List => list.to_vec(),
+            StandIn::Slots => set::numbers(members)
+                .flat_map(|member| outside_capabilities(table.record(member), members))
+                .map(|held| (held.target, held.rights))
+                .collect(),
+        }
+    }
+
+    /// Applies the rules of potential access until a whole pass adds nothing. `over_itself` are
+    /// the rights over itself that each point has in a slot.
+    fn saturate(&self, relation: &mut Relation<POINTS>, over_itself: &[u8; POINTS]) {
+        let mut grown = true;
+        while grown {
+            grown = false;
+            for x in 0..POINTS {
+                for y in (0..POINTS).filter(|&y| y != x) {
+                    if relation.rights[x][y] != 0 {
+                        grown |= self.apply_access_rules(relation, over_itself[y], x, y);
+                    }
+                }
+            }
+        }
+    }
+
+    /// The three rules for what x has over y, another point. Tells whether a right was new.
+    fn apply_access_rules(
+        &self,
+        relation: &mut Relation<POINTS>,
+        y_over_itself: u8,
+        x: usize,
+        y: usize,
+    ) -> bool {
+        let held = relation.rights[x][y];
+        let mut grown = false;
+        for z in 0..POINTS {
+            let of_y = relation.rights[y][z];
+            if held & RD != 0 {
+                let only_held = self.access == Access::ReadHeldOnly && z == y;
+                let passed = if only_held { y_over_itself } else { of_y };
+                grown |= relation.add(x, z, passed);
+            }
+            if held & WK != 0 && of_y & (RD | WK) != 0 {
+                grown |= relation.add(x, z, WK);
+            }
+            if held & (WR | TX) != 0 && self.access != Access::WriteOneWay {
+                let of_x = relation.rights[x][z];
+                grown |= relation.add(y, z, of_x);
+            }
+        }
+        grown
+    }
+}
+
+/// The capabilities of a record that name non-members.
+fn outside_capabilities(record: &Record, members: u64) -> impl Iterator<Item = Capability> + '_ {
+    record
+        .capabilities()
+        .filter(move |held| !set::contains(members, held.target))
+}
+
+fn active_holder_names_member(table: &Table, members: u64) -> bool {
+    set::numbers(!members)
+        .map(|n| table.record(n))
+        .filter(|record| record.is_active())
+        .flat_map(Record::capabilities)
+        .any(|held| set::contains(members, held.target))
+}

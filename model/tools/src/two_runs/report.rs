@@ -1,0 +1,65 @@
+//! The counts of a trial as a table to read.
+
+use super::tally::{Actor, Tally};
+use super::trial::Trial;
+use yavrinks_model::step::Code;
+
+/// The counts of a trial, and the number of differences.
+pub fn trial_text(trial: &Trial) -> String {
+    let tally = &trial.tally;
+    let mut text = codes_text(tally) + "\n" + &actors_text(tally) + "\n";
+    let rows = [
+        ("pairs of runs", trial.pairs),
+        ("  with different start tables", trial.starts_differ),
+        ("  with a bound that is not empty", trial.bound_not_empty),
+        ("  with lists of different length", trial.lengths_differ),
+        ("  with different tables at the end", trial.ends_differ),
+        ("clean objects at the start", trial.clean_at_start),
+        ("objects made clean on the way", trial.made_clean),
+        ("done by others to clean objects", tally.of_clean_by_others),
+    ];
+    for (name, count) in rows {
+        text.push_str(&format!("{name:<36}{count:>12}\n"));
+    }
+    let differences = u64::from(trial.found.is_some());
+    text.push_str(&format!("\n{differences} differences\n"));
+    text
+}
+
+/// Requests of both runs, by code.
+fn codes_text(tally: &Tally) -> String {
+    let mut text = format!(
+        "{:<24}{:>22}{:>24}\n{:<24}{:>11}{:>11}{:>13}{:>11}\n",
+        "requests", "by clean actors", "by others", "", "done", "refused", "done", "refused"
+    );
+    let known = Code::ALL.map(|code| (code.number(), code.label()));
+    for (code, name) in known.into_iter().chain([(0, "other codes".into())]) {
+        let (clean, others) = tally.by_code(code);
+        text.push_str(&format!(
+            "{:<24}{:>11}{:>11}{:>13}{:>11}\n",
+            name, clean.done, clean.refused, others.done, others.refused
+        ));
+    }
+    text
+}
+
+/// Requests of both runs, by who asked.
+fn actors_text(tally: &Tally) -> String {
+    let mut text = format!("{:<24}{:>11}{:>11}\n", "who asked", "done", "refused");
+    for actor in Actor::ALL {
+        let name = match actor {
+            Actor::Clean => "clean objects",
+            Actor::Member => "members",
+            Actor::Bound => "bound objects",
+            Actor::MadeByOthers => "objects made by others",
+            Actor::Unborn => "unborn numbers",
+            Actor::NoNumber => "actors above 63",
+        };
+        let count = tally.by_actor(actor);
+        text.push_str(&format!(
+            "{name:<24}{:>11}{:>11}\n",
+            count.done, count.refused
+        ));
+    }
+    text
+}

@@ -1,0 +1,183 @@
+//! A pair of runs that is under way, and what may differ between them.
+//! Both runs are taken side by side: a request of a clean actor in both at once, any other in one.
+
+use super::rules::Rules;
+use super::tally::{Actor, Tally};
+use yavrinks_model::confinement::Entry;
+use yavrinks_model::runs::{clean_after, clean_at_start, is_from_clean};
+use yavrinks_model::set;
+use yavrinks_model::step::Request;
+use yavrinks_model::table::{Table, OBJECTS};
+
+/// Two tables that agree on every non-member, with members and a list.
+#[derive(Clone, Debug, PartialEq, Eq)]
+pub struct Start {
+    pub first: Table,
+    pub second: Table,
+    pub members: u64,
+    pub list: Vec<Entry>,
+}
+
+/// The next request of the first run, of the second, or the next clean request of both.
+#[derive(Clone, Debug, PartialEq, Eq)]
+pub enum Move {
+    First(Request),
+    Second(Request),
+    Both(Request),
+}
+
+/// How two runs can break the claim.
+#[derive(Clone, Debug, PartialEq, Eq)]
+pub enum Difference {
+    /// The bounds of the two start tables.
+    Bounds(u64, u64),
+    /// The replies to the clean request that came last.
+    Replies(u8, u8),
+    /// The clean objects.
+    Clean(u64, u64),
+    /// The record or the slots of this clean object.
+    Object(u8),
+}
+
+/// One of the two runs, as far as it has gone. Members and bound are those of the start.
+#[derive(Clone, Debug)]
+pub struct Run {
+    pub table: Table,
+    members: u64,
+    bound: u64,
+    /// The objects that are clean by now.
+    pub clean: u64,
+    /// How many requests were taken.
+    pub length: u64,
+    pub tally: Tally,
+}
+
+impl Run {
+    /// The run before its first request. None if the test refuses.
+    pub fn begin(rules: &Rules, table: &Table, members: u64, list: &[Entry]) -> Option<Run> {
+        let (number, bound) = rules.confinement_test(table, members, list);
+        (number == 0).then(|| Run {
+            table: table.clone(),
+            members,
+            bound,
+            clean: clean_at_start(table, members, bound),
+            length: 0,
+            tally: Tally::default(),
+        })
+    }
+
+    /// Whether the request comes from a clean object, if it is made now.
+    pub fn is_of_clean(&self, request: &Request) -> bool {
+        is_from_clean(self.clean, request)
+    }
+
+    /// Takes a request under the rules.
+    pub fn take(&mut self, rules: &Rules, request: &Request) -> u8 {
+        let actor = self.actor(request.actor());
+        let of_clean = self.is_through_clean(request);
+        let reply = rules.step_in_place(&mut self.table, request);
+        let by_clean = actor == Actor::Clean;
+        self.length += 1;
+        self.tally.count(actor, request.code(), reply == 0);
+        self.tally.of_clean_by_others += u64::from(of_clean && !by_clean && reply == 0);
+        self.clean = clean_after(self.clean, request, reply);
+        reply
+    }
+
+    fn actor(&self, n: u8) -> Actor {
+        if usize::from(n) >= OBJECTS {
+            Actor::NoNumber
+        } else if set::contains(self.clean, n) {
+            Actor::Clean
+        } else if set::contains(self.members, n) {
+            Actor::Member
+        } else if set::contains(self.bound, n) {
+            Actor::Bound
+        } else if self.table.is_born(n) {
+            Actor::MadeByOthers
+        } else {
+            Actor::Unborn
+        }
+    }
+
+    /// Whether the request uses a capability over a clean object.
+    fn is_through_clean(&self, request: &Request) -> bool {
+        let actor = self.table.records.get(usize::from(request.actor()));
+        let used = request.used_slot().zip(actor);
+        used.and_then(|((t, _), record)| record.slots.get(usize::from(t)))
+            .is_some_and(|used| !used.is_empty() && set::contains(self.clean, used.target))
+    }
+}
+
+/// Two runs side by side, equal so far in all that the claim speaks of.
+#[derive(Clone, Debug)]
+pub struct TwoRuns {
+    rules: Rules,
+    /// The bound of both start tables.
+    pub bound: u64,
+    pub first: Run,
+    pub second: Run,
+}
+
+impl TwoRuns {
+    /// The runs before the first request. None if a test refuses or nothing is left clean.
+    pub fn begin(rules: &Rules, start: &Start) -> Option<Result<TwoRuns, Difference>> {
+        let begin = |table| Run::begin(rules, table, start.members, &start.list);
+        let (first, second) = (begin(&start.first)?, begin(&start.second)?);
+        if first.bound != second.bound {
+            return Some(Err(Difference::Bounds(first.bound, second.bound)));
+        }
+        let runs = TwoRuns {
+            rules: *rules,
+            bound: first.bound,
+            first,
+            second,
+        };
+        (runs.first.clean != 0).then_some(Ok(runs))
+    }
+
+    /// Whether the move keeps to the claim: a request of both is from a clean actor, a request
+    /// of one run is not.
+    pub fn allows(&self, next: &Move) -> bool {
+        match next {
+            Move::First(request) => !self.first.is_of_clean(request),
+            Move::Second(request) => !self.second.is_of_clean(request),
+            Move::Both(request) => {
+                self.first.is_of_clean(request) && self.second.is_of_clean(request)
+            }
+        }
+    }
+
+    /// Takes a move that is allowed. The lists up to here are two whole lists for which the
+    /// claim must hold, so that a difference shows at the move that makes it.
+    pub fn take(&mut self, next: &Move) -> Result<(), Difference> {
+        match next {
+            Move::First(request) => {
+                self.first.take(&self.rules, request);
+            }
+            Move::Second(request) => {
+                self.second.take(&self.rules, request);
+            }
+            Move::Both(request) => {
+                let reply = self.first.take(&self.rules, request);
+                let second_reply = self.second.take(&self.rules, request);
+                if reply != second_reply {
+                    return Err(Difference::Replies(reply, second_reply));
+                }
+            }
+        }
+        self.compare_clean()
+    }
+
+    /// The same objects clean, and every clean object with the same record and slots.
+    fn compare_clean(&self) -> Result<(), Difference> {
+        let (first, second) = (&self.first, &self.second);
+        if first.clean != second.clean {
+            return Err(Difference::Clean(first.clean, second.clean));
+        }
+        match set::numbers(first.clean).find(|&n| first.table.record(n) != second.table.record(n)) {
+            Some(n) => Err(Difference::Object(n)),
+            None => Ok(()),
+        }
+    }
+}

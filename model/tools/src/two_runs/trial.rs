@@ -1,0 +1,150 @@
+//! A trial: many pairs of runs under the same rules, until one differs or all are tried.
+
+use super::requests::{clean_request, other_request};
+use super::rules::Rules;
+use super::runs::{Difference, Move, Start, TwoRuns};
+use super::start::draw_start;
+use super::tally::Tally;
+use crate::progress::Progress;
+use crate::rng::Rng;
+use yavrinks_model::set;
+
+/// A pair of runs that breaks the claim.
+#[derive(Clone, Debug)]
+pub struct Case {
+    pub start: Start,
+    pub moves: Vec<Move>,
+    pub difference: Difference,
+}
+
+/// What a trial did and found.
+#[derive(Clone, Debug, Default)]
+pub struct Trial {
+    pub tally: Tally,
+    /// Pairs tried, with the one that differs.
+    pub pairs: u64,
+    pub starts_differ: u64,
+    pub bound_not_empty: u64,
+    pub lengths_differ: u64,
+    /// Pairs whose tables differ at the end, in objects that are not clean.
+    pub ends_differ: u64,
+    pub clean_at_start: u64,
+    pub made_clean: u64,
+    pub found: Option<Case>,
+}
+
+/// Tries pairs of runs until one differs, at most the given number of pairs.
+pub fn try_pairs(rules: &Rules, seed: u64, pairs: u64) -> Trial {
+    let mut seeds = Rng::new(seed);
+    let mut trial = Trial::default();
+    let mut progress = Progress::new("two-runs: pairs", pairs);
+    while trial.pairs < pairs && trial.found.is_none() {
+        // Each pair has its own numbers, so that a change in one leaves the others as they were.
+        let drawn = draw_pair(rules, &mut Rng::new(seeds.bits()));
+        trial.count(&drawn);
+        trial.found = drawn.into_case();
+        progress.at(trial.pairs);
+    }
+    trial
+}
+
+impl Trial {
+    fn count(&mut self, drawn: &Drawn) {
+        self.pairs += 1;
+        self.starts_differ += u64::from(drawn.start.first != drawn.start.second);
+        let Some(runs) = &drawn.runs else {
+            return;
+        };
+        self.bound_not_empty += u64::from(runs.bound != 0);
+        self.lengths_differ += u64::from(runs.first.length != runs.second.length);
+        self.ends_differ += u64::from(runs.first.table != runs.second.table);
+        for n in set::numbers(runs.first.clean) {
+            let at_start = drawn.start.first.is_born(n);
+            self.clean_at_start += u64::from(at_start);
+            self.made_clean += u64::from(!at_start);
+        }
+        self.tally.add(&runs.first.tally);
+        self.tally.add(&runs.second.tally);
+    }
+}
+
+/// A pair of runs, drawn and taken to its end.
+#[derive(Clone, Debug)]
+pub struct Drawn {
+    pub start: Start,
+    pub moves: Vec<Move>,
+    /// The runs after the last move; none if even the bounds differ.
+    pub runs: Option<TwoRuns>,
+    pub difference: Option<Difference>,
+}
+
+impl Drawn {
+    fn into_case(self) -> Option<Case> {
+        let difference = self.difference?;
+        Some(Case {
+            start: self.start,
+            moves: self.moves,
+            difference,
+        })
+    }
+}
+
+/// Draws a start, then requests until a difference shows or the lists are long enough.
+pub fn draw_pair(rules: &Rules, rng: &mut Rng) -> Drawn {
+    let (start, begun) = draw_accepted(rules, rng);
+    let mut moves = Vec::new();
+    let (runs, difference) = match begun {
+        Err(difference) => (None, Some(difference)),
+        Ok(mut runs) => {
+            let outcome = draw_moves(rng, &mut runs, &mut moves);
+            (Some(runs), outcome.err())
+        }
+    };
+    Drawn {
+        start,
+        moves,
+        runs,
+        difference,
+    }
+}
+
+/// A start that both tests accept and that leaves something clean.
+fn draw_accepted(rules: &Rules, rng: &mut Rng) -> (Start, Result<TwoRuns, Difference>) {
+    loop {
+        let start = draw_start(rng);
+        if let Some(begun) = TwoRuns::begin(rules, &start) {
+            return (start, begun);
+        }
+    }
+}
+
+/// Draws and takes moves until a difference shows or the lists are long enough.
+fn draw_moves(rng: &mut Rng, runs: &mut TwoRuns, moves: &mut Vec<Move>) -> Result<(), Difference> {
+    // How many requests of others come before a clean one, at most. None at all is worth trying.
+    let busy = [0, 1, 3, 6];
+    let in_first = rng.pick(&busy).unwrap_or(0);
+    let in_second = rng.pick(&busy).unwrap_or(0);
+    let clean_requests = rng.between(0, 20);
+    for k in 0..=clean_requests {
+        for _ in 0..rng.between(0, in_first) {
+            let request = other_request(rng, &runs.first.table, runs.first.clean);
+            take_move(runs, moves, Move::First(request))?;
+        }
+        for _ in 0..rng.between(0, in_second) {
+            let request = other_request(rng, &runs.second.table, runs.second.clean);
+            take_move(runs, moves, Move::Second(request))?;
+        }
+        if k < clean_requests {
+            let request = clean_request(rng, &runs.first.table, runs.first.clean);
+            take_move(runs, moves, Move::Both(request))?;
+        }
+    }
+    Ok(())
+}
+
+fn take_move(runs: &mut TwoRuns, moves: &mut Vec<Move>, next: Move) -> Result<(), Difference> {
+    assert!(runs.allows(&next), "a request on the wrong side: {next:?}");
+    let outcome = runs.take(&next);
+    moves.push(next);
+    outcome
+}

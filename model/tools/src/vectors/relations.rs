@@ -1,0 +1,43 @@
+//! Potential access: relations of full and of small tables, dense and sparse, and unsound tables.
+
+use super::{digest, layout, Part};
+use crate::generate::{any_damage, any_sound_table, sound_table, Shape};
+use crate::rng::Rng;
+use yavrinks_model::access::potential_access;
+use yavrinks_model::table::Table;
+
+/// Tables of all 64 objects from bare to full, tables of any shape, and unsound ones.
+pub fn access_cases() -> Vec<Table> {
+    let mut rng = Rng::new(0xACCE5);
+    let mut tables = vec![Table::unborn(), Table::k()];
+    for filled_percent in [2, 5, 10, 20, 50, 100] {
+        for weak_percent in [0, 60, 95, 100] {
+            let shape = Shape {
+                born: 64,
+                dead_percent: 10,
+                active_percent: 50,
+                stocked_percent: 0,
+                filled_percent,
+                weak_percent,
+            };
+            tables.push(sound_table(&mut rng, &shape));
+        }
+    }
+    tables.extend((0..36).map(|_| any_sound_table(&mut rng)));
+    for _ in 0..8 {
+        let mut table = any_sound_table(&mut rng);
+        any_damage(&mut rng, &mut table);
+        tables.push(table);
+    }
+    tables
+}
+
+pub fn part() -> Part {
+    let mut part = Part::new("access", "potential access: case, number, relation");
+    for table in access_cases() {
+        let (number, access) = potential_access(&table);
+        let digest = digest::text(digest::of_relation(&access));
+        part.add(&layout::table(&table), format!("{number} {digest}"));
+    }
+    part
+}

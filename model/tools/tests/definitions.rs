@@ -1,0 +1,577 @@
+//! The parts of the command `definitions` that need no toolchain: which cases are drawn, how they are
+//! written, and how the toolchain's words are read.
+
+use std::collections::{BTreeMap, BTreeSet};
+use std::fs;
+use std::path::{Path, PathBuf};
+
+use yavrinks_model::step::Request;
+use yavrinks_model::table::{Capability, Record, Table};
+use yavrinks_tools::definitions::cases::{subjects, Answer, Case, Part, Question};
+use yavrinks_tools::definitions::crates::{case_crates, CaseCrate};
+use yavrinks_tools::definitions::draw::{questions, Counts};
+use yavrinks_tools::definitions::scratch::Scratch;
+use yavrinks_tools::definitions::specs::{unfoldable, unfoldable_names, with_all_below};
+use yavrinks_tools::definitions::statements::declarations;
+use yavrinks_tools::definitions::verdicts::{verdicts, Verdict};
+use yavrinks_tools::definitions::wrong::wrong_cases;
+use yavrinks_tools::definitions::{clean, summary, terms, Options};
+use yavrinks_tools::generate::{any_damage, any_sound_table, ConfinementCase};
+use yavrinks_tools::rng::Rng;
+
+fn cases_of(seed: u64, runs: usize, rounds: usize) -> Vec<Case> {
+    let questions = questions(seed, &Counts { runs, rounds });
+    questions.into_iter().map(Case::new).collect()
+}
+
+fn default_cases() -> Vec<Case> {
+    let Counts { runs, rounds } = Counts::default();
+    cases_of(1, runs, rounds)
+}
+
+/// A folder of its own for a test that needs files.
+fn test_folder(name: &str) -> PathBuf {
+    let folder = std::env::temp_dir().join(format!("yavrinks-{name}-{}", std::process::id()));
+    let _ = fs::remove_dir_all(&folder);
+    fs::create_dir_all(&folder).expect("folder");
+    folder
+}
+
+// Terms.
+
+#[test]
+fn lists_are_broken_into_lines() {
+    assert_eq!(terms::numbers([]), "[]");
+    assert_eq!(terms::numbers([7, 8]), "7 ∷ 8 ∷ []");
+    assert_eq!(
+        terms::numbers(0..9),
+        "0 ∷ 1 ∷ 2 ∷ 3 ∷ 4 ∷ 5 ∷ 6 ∷ 7\n    ∷ 8 ∷ []"
+    );
+    assert_eq!(terms::bytes(&[0, 255]), "0 ∷ 255 ∷ []");
+}
+
+#[test]
+fn capabilities_and_records_have_short_words() {
+    assert_eq!(terms::capability(Capability::EMPTY), "free");
+    assert_eq!(terms::capability(Capability::new(0, 4)), "slot 0 4");
+    assert_eq!(terms::capability(Capability::new(9, 0)), "slot 9 0");
+    assert_eq!(terms::record(&Record::UNBORN), "unborn");
+    let record = Record {
+        status: 3,
+        word: u32::MAX,
+        stock: u64::MAX,
+        ..Record::UNBORN
+    };
+    assert_eq!(
+        terms::record(&record),
+        "object 3 0 4294967295 18446744073709551615"
+    );
+}
+
+#[test]
+fn requests_have_their_fields_in_the_order_of_document_01() {
+    let send = Request::Send {
+        actor: 1,
+        t: 2,
+        word: 3,
+        list: vec![(4, 5), (6, 7)],
+        reply: 8,
+    };
+    assert_eq!(terms::ask(&send), "send 1 2 3 (pair 4 5 ∷ pair 6 7 ∷ []) 8");
+    let allocate = Request::Allocate {
+        actor: 1,
+        n: 2,
+        kind: 3,
+        part: 4,
+        i: 5,
+        list: vec![],
+    };
+    assert_eq!(terms::ask(&allocate), "allocate 1 2 3 4 5 ([])");
+    let unknown = Request::Unknown {
+        code: 9,
+        actor: 200,
+    };
+    assert_eq!(terms::ask(&unknown), "unknown 9 200");
+}
+
+/// Reads a term for a table back, word by word.
+fn read_table(term: &str) -> Table {
+    let (records, slots) = term.split_once("slots =").expect("slots");
+    let items = |text: &str| -> Vec<Vec<u64>> {
+        let text = text.replace("record {", "").replace("records =", "");
+        let text = text.replace([';', '}'], "");
+        text.split('∷')
+            .map(|item| match item.trim() {
+                "unborn" => vec![0; 4],
+                "free" => vec![0; 2],
+                item => item
+                    .split_whitespace()
+                    .skip(1)
+                    .map(|word| word.parse().expect("number"))
+                    .collect(),
+            })
+            .collect()
+    };
+    let (records, slots) = (items(records), items(slots));
+    assert_eq!((records.len(), slots.len()), (65, 513));
+    let mut table = Table::unborn();
+    for (n, record) in table.records.iter_mut().enumerate() {
+        let fields = &records[n];
+        (record.status, record.kind) = (fields[0] as u8, fields[1] as u8);
+        (record.word, record.stock) = (fields[2] as u32, fields[3]);
+        for (j, slot) in record.slots.iter_mut().enumerate() {
+            let fields = &slots[8 * n + j];
+            *slot = Capability::new(fields[0] as u8, fields[1] as u8);
+        }
+    }
+    table
+}
+
+#[test]
+fn terms_of_tables_say_every_field() {
+    let mut rng = Rng::new(2);
+    for _ in 0..300 {
+        let mut table = any_sound_table(&mut rng);
+        if rng.percent(50) {
+            any_damage(&mut rng, &mut table);
+        }
+        assert_eq!(read_table(&terms::table(&table)), table);
+    }
+}
+
+// Statements.
+
+#[test]
+fn a_refused_step_is_stated_with_the_table_as_it_was() {
+    let case = Case::new(Question::Step {
+        table: Table::k(),
+        request: Request::Read { actor: 0, t: 5 },
+    });
+    let text = declarations(&case, 7, "A.b C.d");
+    let table = terms::table(&Table::k());
+    assert_eq!(
+        text,
+        format!(
+            "-- case 7: 1 read, refused 4\n\
+             table-0007 : Table\n\
+             table-0007 = {table}\n\
+             \n\
+             case-0007 : _≡_ {{A = ℕ × Table}} (stepped (stepOf table-0007 (read 0 5))) \
+             (4, table-0007)\n\
+             unfolding table-0007 A.b C.d\n\
+             case-0007 = refl {{0}} {{A = ℕ × Table}} {{a = (4, table-0007)}}\n\
+             \n"
+        )
+    );
+}
+
+#[test]
+fn a_step_that_is_done_is_stated_with_the_table_after_it() {
+    let request = Request::Write {
+        actor: 4,
+        t: 0,
+        word: 7,
+    };
+    let case = Case::new(Question::Step {
+        table: Table::k(),
+        request,
+    });
+    let mut after = Table::k();
+    after.records[3].word = 7;
+    assert_eq!(case.answer, Answer::Table(0, after.clone()));
+    let text = declarations(&case, 12, "A.b");
+    assert!(text.contains(&format!("after-0012 = {}\n", terms::table(&after))));
+    assert!(text.contains("(stepped (stepOf table-0012 (write 4 0 7))) (0, after-0012)\n"));
+    assert!(text.contains("unfolding table-0012 after-0012 A.b\n"));
+}
+
+/// Example 1 of document 01: 3, 4 and 6 are clean. 4 is refused, 5 is not clean.
+fn clean_case(parts: &[Part]) -> Case {
+    Case::new(Question::Clean {
+        start: ConfinementCase {
+            table: Table::k(),
+            members: 1 << 5,
+            list: vec![(1, 2)],
+        },
+        requests: vec![
+            Request::Read { actor: 4, t: 0 },
+            Request::Read { actor: 5, t: 0 },
+        ],
+        parts: parts.to_vec(),
+    })
+}
+
+#[test]
+fn clean_objects_are_stated_in_four_parts_or_one() {
+    let text = declarations(&clean_case(&Part::ALL), 3, "A.b");
+    let at_start = "cleanAtStart table-0003 32 list-0003";
+    let from = format!("table-0003 ({at_start}) requests-0003");
+    let statement = format!(
+        "case-0003 : _≡_ {{A = ℕ × ℕ × List Ask × List ℕ}} (bits 64 ({at_start}), \
+         bits 64 (cleanAtEnd {from}), cleanRequests {from}, map number (cleanReplies {from})) \
+         (88, 88, asked-0003, 6 ∷ [])\n"
+    );
+    assert!(text.contains(&statement), "{text}");
+    assert!(text.contains("asked-0003 = read 4 0 ∷ []\n"));
+    let text = declarations(&clean_case(&[Part::Replies]), 3, "A.b");
+    let statement =
+        format!("case-0003 : _≡_ {{A = List ℕ}} (map number (cleanReplies {from})) (6 ∷ [])\n");
+    assert!(text.contains(&statement), "{text}");
+}
+
+#[test]
+fn every_case_names_its_declarations_by_its_number() {
+    for (number, case) in cases_of(3, 4, 1).iter().enumerate() {
+        let text = declarations(case, number, "A.b");
+        let names: Vec<&str> = text
+            .lines()
+            .filter_map(|line| line.split_once(" : "))
+            .map(|(name, _)| name)
+            .filter(|name| !name.contains(' '))
+            .collect();
+        assert!(names.contains(&format!("case-{number:04}").as_str()));
+        let part = format!("-{number:04}");
+        assert!(names.iter().all(|name| name.contains(&part)), "{names:?}");
+    }
+}
+
+// Cases.
+
+#[test]
+fn the_default_run_asks_everything() {
+    let cases = default_cases();
+    let asked: BTreeSet<(String, u8)> = cases
+        .iter()
+        .map(|case| (case.question.subject(), case.answer.number()))
+        .collect();
+    let expected: [(&str, &[u8]); 16] = [
+        ("clean along a run", &[0]),
+        ("1 read", &[0, 1, 2, 3, 4, 5, 6]),
+        ("2 write", &[0, 1, 2, 3, 4, 5, 6]),
+        ("3 fetch", &[0, 1, 2, 3, 4, 5, 6]),
+        ("4 store", &[0, 1, 2, 3, 4, 5, 6]),
+        ("5 revoke", &[0, 1, 2, 3, 4, 5, 6]),
+        ("6 send", &[0, 1, 2, 3, 4, 5, 6, 7]),
+        ("7 allocate", &[0, 1, 2, 3, 9]),
+        ("8 destroy", &[0, 1, 2, 3, 4, 5, 6, 8]),
+        ("unknown code", &[1, 2]),
+        ("confinement test", &[0, 1, 10, 11, 12, 13]),
+        ("potential access", &[0, 1]),
+        ("image read", &[0, 1, 14, 15]),
+        ("image written", &[0, 1, 16]),
+        ("request as bytes", &[0, 2]),
+        ("list as bytes", &[0, 11]),
+    ];
+    for (subject, numbers) in expected {
+        for &number in numbers {
+            let case = (subject.to_string(), number);
+            assert!(asked.contains(&case), "{subject} {number}");
+        }
+    }
+    for subject in subjects() {
+        assert!(asked.iter().any(|case| case.0 == subject), "{subject}");
+    }
+}
+
+/// Everything that the definitions of clean objects have to tell apart comes several times.
+#[test]
+fn the_runs_have_whatever_could_be_taken_for_clean() {
+    let cases: BTreeMap<usize, Case> = (0..).zip(default_cases()).collect();
+    let text = clean::counts(&cases).to_string();
+    let mut lines = text.lines();
+    assert_eq!(lines.next(), Some("along 24 runs, requests"));
+    let mut kinds = 0;
+    for line in lines {
+        let (_, count) = line.rsplit_once(' ').expect("count");
+        assert!(count.parse::<u64>().expect("number") >= 10, "{text}");
+        kinds += 1;
+    }
+    assert_eq!(kinds, 11);
+}
+
+/// The runs start from tests that are accepted, and leave something clean; one of them is empty.
+#[test]
+fn the_runs_start_with_clean_objects() {
+    let mut empty = 0;
+    for case in cases_of(2, 24, 0) {
+        let (Question::Clean { requests, .. }, Answer::Clean(start, part)) =
+            (&case.question, &case.answer)
+        else {
+            panic!("{case:?}");
+        };
+        assert_ne!(*start, 0);
+        assert_eq!(start & part.clean, *start);
+        empty += usize::from(requests.is_empty());
+    }
+    assert_eq!(empty, 1);
+}
+
+#[test]
+fn a_seed_settles_the_cases_and_each_kind_stands_alone() {
+    let (many, few) = (cases_of(4, 24, 1), cases_of(4, 0, 1));
+    assert_eq!(many, cases_of(4, 24, 1));
+    assert_ne!(many, cases_of(5, 24, 1));
+    assert!(many.ends_with(&few));
+}
+
+#[test]
+fn wrong_answers_differ_from_the_right_ones() {
+    let cases = cases_of(6, 24, 1);
+    let wrong = wrong_cases(&mut Rng::new(6), &cases);
+    for case in &wrong {
+        assert_ne!(case, &Case::new(case.question.clone()));
+    }
+    let is_clean = |case: &&Case| matches!(case.question, Question::Clean { .. });
+    assert_eq!(wrong.iter().filter(is_clean).count(), Part::ALL.len());
+    // Of each of the eight other kinds a wrong number and wrong content.
+    assert_eq!(wrong.len(), Part::ALL.len() + 2 * 8);
+}
+
+#[test]
+fn cases_are_shared_out_in_turn() {
+    let cases: BTreeMap<usize, Case> = (5..).zip(cases_of(1, 0, 1).into_iter().take(7)).collect();
+    let crates = case_crates("cases", 3, &cases, "A.b");
+    let shared: Vec<&[usize]> = crates.iter().map(|one| one.cases.as_slice()).collect();
+    assert_eq!(shared, [&[5, 8, 11][..], &[6, 9], &[7, 10]]);
+    assert_eq!(crates[2].name, "cases_02");
+    assert!(crates[2].text.contains("\ncase-0010 : "));
+    assert!(case_crates("cases", 3, &BTreeMap::new(), "A.b").is_empty());
+}
+
+// What a repository says.
+
+#[test]
+fn definitions_that_may_be_looked_into_are_found() {
+    let text = "-- unfoldable pub comment : ℕ\n\
+                unfoldable pub grow : (ℕ → ℕ → Bool) → ℕ → ℕ\n\
+                grow edge s = s\n\
+                abbrev pub edgeOf : Right → ℕ\n\
+                unfoldable hidden : ℕ\n\
+                unfoldable abbrev pub both : ℕ\n\
+                module _ (n : ℕ) where\n  unfoldable pub inner {ℓ} : Type ℓ\n\
+                unfoldable pub use Basic.*\n\
+                unfoldable pub _⊔_ : ℕ → ℕ → ℕ\n";
+    assert_eq!(unfoldable_names(text), ["grow", "both", "inner", "_⊔_"]);
+}
+
+#[test]
+fn crates_bring_all_that_they_stand_on() {
+    let list = "# comment\nmask:\ntable: mask # libc\nimage: table io\nreport : image\n";
+    let below = |names: &[&str]| with_all_below(list, names).expect("listed");
+    assert_eq!(
+        below(&["report", "table"]),
+        ["report", "table", "image", "mask", "io"]
+    );
+    assert_eq!(below(&["mask"]), ["mask"]);
+    assert!(with_all_below(list, &["io"]).is_err());
+}
+
+/// A small repository, of which `mask` is proved.
+fn write_repository(root: &Path) {
+    for (file, text) in [
+        ("crates.txt", "mask:\nsteps: mask"),
+        ("crates/mask/src/lib.rt", "// code\n"),
+        ("crates/mask/specs/Lib.antt", "pub mod Sets\n"),
+        ("crates/mask/specs/Sets.antt", "unfoldable pub bits : ℕ\n"),
+        (
+            "crates/mask/specs/Sets/Low.antt",
+            "unfoldable pub low : ℕ\n",
+        ),
+        ("crates/mask/must-fail/one.edit", "file: specs/Sets.antt\n"),
+        ("crates/steps/src/lib.rt", "// code\n"),
+        (
+            "crates/steps/specs/Steps.antt",
+            "unfoldable pub stepOf : ℕ\n",
+        ),
+        ("target/log/mask.out", "old\n"),
+        ("target/stamp/mask", "sum\n"),
+        ("target/rlib/mask.rlib/format", "library\n"),
+        ("target/rlib/steps.rlib/format", "library without a stamp\n"),
+    ] {
+        let file = root.join(file);
+        fs::create_dir_all(file.parent().expect("folder")).expect("folder");
+        fs::write(file, text).expect("file");
+    }
+}
+
+#[test]
+fn cases_are_added_to_a_copy_only() {
+    let folder = test_folder("copy");
+    let root = folder.join("repository");
+    write_repository(&root);
+    let scratch = Scratch::new(&root, Some(&folder.join("copy"))).expect("copy");
+    let list = scratch.crate_list().expect("list");
+    let below = with_all_below(&list, &["steps"]).expect("crates");
+    let unfolding = unfoldable(&scratch.folder, &below).expect("names");
+    assert_eq!(
+        unfolding,
+        "Rattle.steps.specs.Steps.stepOf Rattle.mask.specs.Sets.Low.low \
+         Rattle.mask.specs.Sets.bits"
+    );
+    let cases: BTreeMap<usize, Case> = (0..).zip(cases_of(1, 0, 1)).collect();
+    for added in case_crates("cases", 2, &cases, &unfolding) {
+        scratch.add_crate(&added, &below).expect("crate");
+    }
+    scratch.take_proved(&root, &below).expect("libraries");
+
+    let read = |file: &str| fs::read_to_string(scratch.folder.join(file)).expect(file);
+    let added = "steps: mask\ncases_00: steps mask\n\ncases_01: steps mask\n";
+    assert!(read("crates.txt").ends_with(added));
+    assert_eq!(read("crates/cases_00/proofs/Lib.antt"), "pub mod Cases\n");
+    assert!(read("crates/cases_01/proofs/Cases.antt").contains(&unfolding));
+    assert_eq!(read("target/stamp/mask"), "sum\n");
+    assert_eq!(read("target/rlib/mask.rlib/format"), "library\n");
+    for absent in [
+        "crates/mask/must-fail",
+        "target/log",
+        "target/rlib/steps.rlib",
+    ] {
+        assert!(!scratch.folder.join(absent).exists(), "{absent}");
+    }
+    assert!(!root.join("crates/cases_00").exists());
+    fs::remove_dir_all(folder).expect("remove");
+}
+
+#[test]
+fn a_copy_lies_outside_the_repository_and_is_fresh() {
+    let folder = test_folder("place");
+    let root = folder.join("repository");
+    write_repository(&root);
+    fs::write(folder.join("file"), "").expect("file");
+    for (from, to) in [
+        (&root, root.join("copy")),
+        (&root, root.join("crates/../copy/deep")),
+        (&root, folder.clone()),
+        (&folder, folder.join("copy")),
+    ] {
+        assert!(Scratch::new(from, Some(&to)).is_err(), "{}", to.display());
+    }
+    assert!(!root.join("copy").exists());
+    fs::remove_dir_all(folder).expect("remove");
+}
+
+// What the toolchain says.
+
+fn case_crate(name: &str, cases: &[usize]) -> CaseCrate {
+    CaseCrate {
+        name: name.into(),
+        text: String::new(),
+        cases: cases.to_vec(),
+    }
+}
+
+#[test]
+fn refusals_are_told_from_missing_verdicts() {
+    let said = "rt: mask proved (2 s)\n\
+        /tmp/x/crates/cases_a/proofs/Cases.antt:9:13: error: `case-0001`: expected type `f 1 ≡ 2`\n  \
+        but this has type `2 ≡ 2`\n\
+        /tmp/x/crates/cases_a/proofs/Cases.antt:9:1: note: something else\n\
+        /tmp/x/crates/cases_a/proofs/Cases.antt:9:1: error: `case-0002`: in its elaboration: stopped at the step limit\n  \
+        expected type `f 1 ≡ 2`, but this has type `2 ≡ 2`\n\
+        /tmp/x/crates/cases_a/proofs/Cases.antt:9:1: error: `case-0004`: `table-0004` was not admitted\n\
+        rt: cases_a NOT PROVED (exit 1, 6 s)\n\
+        rt: cases_b proved (3 s)\n\
+        rt: cases_c NOT PROVED: its dependency table is not proved\n\
+        /tmp/x/crates/cases_d/proofs/Cases.antt:1:1: error: a word is missing\n\
+        rt: cases_d NOT PROVED (exit 1, 6 s)\n";
+    let found = verdicts(
+        said,
+        &[
+            case_crate("cases_a", &[1, 2, 3, 4]),
+            case_crate("cases_b", &[5]),
+            case_crate("cases_c", &[6]),
+            case_crate("cases_d", &[7, 8]),
+        ],
+    );
+    let refused: Vec<usize> = found
+        .iter()
+        .filter(|(_, verdict)| matches!(verdict, Verdict::Refused(_)))
+        .map(|(number, _)| *number)
+        .collect();
+    assert_eq!(refused, [1]);
+    assert_eq!(
+        found.keys().copied().collect::<Vec<_>>(),
+        [1, 2, 4, 6, 7, 8]
+    );
+    let dependency = "rt: cases_c NOT PROVED: its dependency table is not proved";
+    assert_eq!(found[&6], Verdict::Undecided(dependency.into()));
+}
+
+/// Unless the checker got through a crate, nothing of it is taken for accepted.
+#[test]
+fn silence_is_no_acceptance() {
+    let crates = [case_crate("cases_a", &[0, 1])];
+    let refused = "/tmp/x/crates/cases_a/proofs/Cases.antt:9:13: error: `case-0001`: \
+                   expected type `f 1 ≡ 2`, but this has type `2 ≡ 2`\n";
+    let whole = "/tmp/x/crates/cases_a/proofs/Lib.antt:1:1: error: no such file\n";
+    for said in [
+        "",
+        "rt: crates.txt: line 3: bad\n",
+        "rt: cases_ab proved (1 s)\n",
+        "rt: cases_a NOT PROVED (exit 1, 6 s)\n",
+        &format!("{whole}rt: cases_a NOT PROVED (exit 1, 6 s)\n"),
+        &format!("{refused}rt: cases_a NOT PROVED (exit 139, 6 s)\n"),
+        refused,
+    ] {
+        assert_eq!(verdicts(said, &crates).len(), 2, "{said}");
+    }
+    let through = format!("{refused}rt: cases_a NOT PROVED (exit 1, 6 s)\n");
+    assert_eq!(verdicts(&through, &crates).len(), 1);
+    assert!(verdicts("rt: cases_a proved (unchanged)\n", &crates).is_empty());
+}
+
+#[test]
+fn the_summary_names_what_was_not_accepted() {
+    let question = Question::Step {
+        table: Table::k(),
+        request: Request::Read { actor: 0, t: 5 },
+    };
+    let cases: BTreeMap<usize, Case> = (0..4).map(|n| (n, Case::new(question.clone()))).collect();
+    let counts = summary::counts(&cases);
+    let read = counts
+        .lines()
+        .find(|line| line.starts_with("1 read"))
+        .expect("row");
+    let cells: Vec<&str> = read.split_whitespace().collect();
+    assert_eq!(&cells[..8], ["1", "read", ".", ".", ".", ".", "4", "."]);
+    assert_eq!(cells.last(), Some(&"4"));
+
+    let crates = [
+        case_crate("cases_00", &[0, 1]),
+        case_crate("cases_01", &[2, 3]),
+    ];
+    let found = BTreeMap::from([
+        (2, Verdict::Refused("expected\nmore".into())),
+        (3, Verdict::Undecided("too long".into())),
+    ]);
+    let text = summary::not_accepted(&cases, &crates, &found, Path::new("/x"));
+    let expected = "REFUSED case 2: 1 read, answer 4\n  /x/crates/cases_01/proofs/Cases.antt\n  \
+                    expected\nNOT CHECKED case 3\n  too long\n  all that was said: /x/target/log\n\
+                    4 cases: 2 accepted, 1 refused, 1 not checked\n";
+    assert_eq!(text, expected);
+    let text = summary::not_refused(&cases, &crates, &found, Path::new("/x"));
+    assert!(text.starts_with("WRONG, ACCEPTED case 0: 1 read, answer 4\n"));
+    assert!(text.ends_with("4 wrong on purpose: 1 refused, 2 accepted, 1 not checked\n"));
+}
+
+// Options.
+
+#[test]
+fn options_are_read() {
+    let words = ["--seed", "9", "--runs", "5", "--keep", "/x", "--root", "/y"];
+    let options = Options::parse(&words).expect("options");
+    assert_eq!((options.seed, options.counts.runs), (9, 5));
+    assert_eq!(options.counts.rounds, Counts::default().rounds);
+    assert_eq!(options.keep, Some("/x".into()));
+    assert_eq!(options.root, Path::new("/y"));
+    assert_eq!(Options::parse(&[]), Ok(Options::default()));
+    assert!(Options::default().root.join("model/tools").is_dir());
+    for faulty in [
+        &["--runs"][..],
+        &["--runs", "x"],
+        &["--other", "1"],
+        &["5", "6"],
+    ] {
+        assert!(Options::parse(faulty).is_err(), "{faulty:?}");
+    }
+}

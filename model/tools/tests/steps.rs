@@ -1,0 +1,279 @@
+//! Steps, in two ways: the library's, and each field of the table after the step by a formula.
+//! Cases are aimed at every reply of every request; the counts show that each is reached.
+
+use std::collections::{BTreeMap, BTreeSet};
+
+use yavrinks_model::runs::run;
+use yavrinks_model::set;
+use yavrinks_model::step::{step, step_in_place, weaken, Pair, Request};
+use yavrinks_model::table::{Capability, Record, Table};
+use yavrinks_model::table::{ACTIVE, ALIVE, ALL_RIGHTS, DEAD, RD, TX, WK, WR};
+use yavrinks_tools::generate::{
+    any_request, any_sound_table, can_meet, likely_request, sound_table, step_case, Shape,
+};
+use yavrinks_tools::rng::Rng;
+
+/// The target of the slot that a request uses.
+fn target_of(before: &Table, request: &Request) -> Option<u8> {
+    let (t, _) = request.used_slot()?;
+    Some(before.record(request.actor()).slots[t as usize].target)
+}
+
+/// The source of the last pair that copies into slot k.
+fn last_source(list: &[Pair], k: u8) -> Option<usize> {
+    let pair = list.iter().rev().find(|pair| pair.1 == k)?;
+    Some(pair.0 as usize)
+}
+
+/// Slot k of number n after a request that is done.
+fn expected_slot(before: &Table, request: &Request, n: u8, k: u8) -> Capability {
+    let own = before.record(request.actor()).slots;
+    let old = before.record(n).slots[k as usize];
+    let at_actor = n == request.actor();
+    let at_target = target_of(before, request) == Some(n);
+    match request {
+        Request::Fetch { t, i, j, .. } if at_actor && k == *j => {
+            let used = own[*t as usize];
+            let found = before.record(used.target).slots[*i as usize];
+            match used.rights & RD {
+                0 => weaken(found),
+                _ => found,
+            }
+        }
+        Request::Store { i, j, .. } if at_target && k == *j => own[*i as usize],
+        Request::Revoke { j, .. } if at_target && k == *j => Capability::EMPTY,
+        Request::Send { list, reply, .. } if at_target => match last_source(list, k) {
+            _ if k == *reply => Capability::new(request.actor(), TX),
+            Some(source) => own[source],
+            None => old,
+        },
+        Request::Allocate {
+            n: made, i, list, ..
+        } => match last_source(list, k) {
+            Some(source) if n == *made => own[source],
+            _ if at_actor && k == *i => Capability::new(*made, ALL_RIGHTS),
+            _ => old,
+        },
+        Request::Destroy { .. } if at_target => Capability::EMPTY,
+        _ => old,
+    }
+}
+
+fn expected_word(before: &Table, request: &Request, n: u8) -> u32 {
+    let at_target = target_of(before, request) == Some(n);
+    match request {
+        Request::Read { .. } if n == request.actor() => {
+            before
+                .record(target_of(before, request).expect("target"))
+                .word
+        }
+        Request::Write { word, .. } | Request::Send { word, .. } if at_target => *word,
+        Request::Destroy { .. } if at_target => 0,
+        _ => before.record(n).word,
+    }
+}
+
+fn expected_stock(before: &Table, request: &Request, n: u8) -> u64 {
+    let old = before.record(n).stock;
+    match request {
+        Request::Allocate { n: made, part, .. } if n == *made => *part,
+        Request::Allocate { n: made, part, .. } if n == request.actor() => set::numbers(old)
+            .filter(|m| m != made && !set::contains(*part, *m))
+            .fold(0, |stock, m| stock | 1 << m),
+        Request::Destroy { .. } => match target_of(before, request) {
+            Some(target) if n == target => 0,
+            Some(target) if n == request.actor() => old | before.record(target).stock,
+            _ => old,
+        },
+        _ => old,
+    }
+}
+
+fn expected_record(before: &Table, request: &Request, n: u8) -> Record {
+    let old = before.record(n);
+    let (status, kind) = match request {
+        Request::Allocate { n: made, kind, .. } if n == *made => (ALIVE, *kind),
+        Request::Destroy { .. } if target_of(before, request) == Some(n) => (DEAD, old.kind),
+        _ => (old.status, old.kind),
+    };
+    let mut slots = old.slots;
+    for k in 0..8 {
+        slots[k as usize] = expected_slot(before, request, n, k);
+    }
+    Record {
+        status,
+        kind,
+        word: expected_word(before, request, n),
+        stock: expected_stock(before, request, n),
+        slots,
+    }
+}
+
+/// Asserts everything that holds of a step from a sound table; gives the reply and the table.
+fn checked_step(before: &Table, request: &Request) -> (u8, Table) {
+    let (reply, after) = step(before, request);
+    let mut lent = before.clone();
+    assert_eq!(step_in_place(&mut lent, request), reply);
+    assert_eq!(lent, after);
+    assert!(after.is_sound());
+    assert_eq!(reply, first_cause(before, request));
+    for n in 0..64 {
+        let expected = match reply {
+            0 => expected_record(before, request, n),
+            _ => *before.record(n),
+        };
+        assert_eq!(*after.record(n), expected, "{n} after {request:?}");
+    }
+    (reply, after)
+}
+
+/// Every field of a request with the highest value it may have; the length of a list is one.
+fn limits(request: &Request) -> Vec<(usize, usize)> {
+    let slots = |slots: &[&u8]| -> Vec<(usize, usize)> {
+        slots.iter().map(|slot| (**slot as usize, 7)).collect()
+    };
+    let list = |list: &[Pair]| -> Vec<(usize, usize)> {
+        let mut fields = vec![(list.len(), 4)];
+        for (from, to) in list {
+            fields.extend([(*from as usize, 7), (*to as usize, 7)]);
+        }
+        fields
+    };
+    match request {
+        Request::Read { t, .. } | Request::Write { t, .. } | Request::Destroy { t, .. } => {
+            slots(&[t])
+        }
+        Request::Fetch { t, i, j, .. } | Request::Store { t, i, j, .. } => slots(&[t, i, j]),
+        Request::Revoke { t, j, .. } => slots(&[t, j]),
+        Request::Send {
+            t, list: l, reply, ..
+        } => [slots(&[t]), list(l), vec![(*reply as usize, 8)]].concat(),
+        Request::Allocate {
+            n,
+            kind,
+            i,
+            list: l,
+            ..
+        } => {
+            let rest = vec![(*n as usize, 63), (*kind as usize, 1)];
+            [slots(&[i]), list(l), rest].concat()
+        }
+        Request::Unknown { .. } => vec![(1, 0)],
+    }
+}
+
+/// The reply for a sound table: the least number among all causes that are met, or 0.
+fn first_cause(table: &Table, request: &Request) -> u8 {
+    let mut causes = BTreeSet::new();
+    let actor = request.actor() as usize;
+    let out_of_range = |&(value, highest): &(usize, usize)| value > highest;
+    if actor > 63 || limits(request).iter().any(out_of_range) {
+        return 2;
+    }
+    let record = &table.records[actor];
+    if record.status != ALIVE || record.kind != ACTIVE {
+        causes.insert(3);
+    }
+    if let Request::Allocate { n, part, .. } = request {
+        let rest: BTreeSet<u8> = set::numbers(record.stock).filter(|m| m != n).collect();
+        if !set::contains(record.stock, *n) || set::numbers(*part).any(|m| !rest.contains(&m)) {
+            causes.insert(9);
+        }
+    } else {
+        causes.extend(used_slot_causes(table, request));
+    }
+    causes.first().copied().unwrap_or(0)
+}
+
+/// The causes 4 to 8 that are met. An empty slot names no target that could give others.
+fn used_slot_causes(table: &Table, request: &Request) -> Vec<u8> {
+    let (t, _) = request.used_slot().expect("slot");
+    let used = table.record(request.actor()).slots[t as usize];
+    if used == Capability::EMPTY {
+        return vec![4];
+    }
+    let needed = match request {
+        Request::Read { .. } | Request::Fetch { .. } => RD | WK,
+        Request::Send { .. } => TX,
+        Request::Write { .. }
+        | Request::Store { .. }
+        | Request::Revoke { .. }
+        | Request::Destroy { .. } => WR,
+        Request::Allocate { .. } | Request::Unknown { .. } => panic!("no slot is used"),
+    };
+    let target = table.record(used.target);
+    let met = [
+        (5, target.status == DEAD),
+        (6, used.rights & needed == 0),
+        (7, request.code() == 6 && target.kind != ACTIVE),
+        (8, request.code() == 8 && used.target == request.actor()),
+    ];
+    met.into_iter().filter(|c| c.1).map(|c| c.0).collect()
+}
+
+#[test]
+fn every_reply_of_every_request_is_reached() {
+    let mut rng = Rng::new(10);
+    let mut counts: BTreeMap<(u8, u8), u32> = BTreeMap::new();
+    for code in (0..=9).chain([100, 255]) {
+        for aim in (0..=9).filter(|&aim| can_meet(code, aim)) {
+            for _ in 0..150 {
+                let case = step_case(&mut rng, code, aim);
+                let (reply, after) = step(&case.table, &case.request);
+                assert_eq!(case.request.code(), code);
+                assert_eq!(reply, aim, "{:?}", case.request);
+                if aim == 1 {
+                    assert_eq!(after, case.table);
+                } else {
+                    checked_step(&case.table, &case.request);
+                }
+                *counts.entry((code, reply)).or_default() += 1;
+            }
+        }
+    }
+    assert!(counts.values().all(|&count| count == 150));
+    // Seven requests with a slot get 0 to 6, send also 7, destroy also 8; allocate gets five
+    // replies; each of the four unknown codes gets 1 and 2.
+    assert_eq!(counts.len(), 7 * 7 + 2 + 5 + 4 * 2);
+}
+
+#[test]
+fn arbitrary_requests_agree_with_the_formulas() {
+    let mut rng = Rng::new(11);
+    let mut replies = BTreeSet::new();
+    for _ in 0..20_000 {
+        let table = any_sound_table(&mut rng);
+        let request = any_request(&mut rng);
+        replies.insert(checked_step(&table, &request).0);
+        let request = likely_request(&mut rng, &table);
+        replies.insert(checked_step(&table, &request).0);
+    }
+    assert_eq!(replies, (0..=9).filter(|&reply| reply != 1).collect());
+}
+
+#[test]
+fn runs_reach_every_request_done_and_chain_their_tables() {
+    let mut rng = Rng::new(12);
+    let mut done: BTreeMap<u8, u32> = BTreeMap::new();
+    for _ in 0..60 {
+        let shape = Shape::mixed(&mut rng);
+        let start = sound_table(&mut rng, &shape);
+        let mut table = start.clone();
+        let (mut requests, mut replies) = (Vec::new(), Vec::new());
+        for _ in 0..200 {
+            let request = likely_request(&mut rng, &table);
+            let (reply, after) = checked_step(&table, &request);
+            if reply == 0 {
+                *done.entry(request.code()).or_default() += 1;
+            }
+            table = after;
+            requests.push(request);
+            replies.push(reply);
+        }
+        assert_eq!(run(&start, &requests), (replies, table));
+    }
+    for code in 1..=8 {
+        let count = done.get(&code).copied().unwrap_or(0);
+        assert!(count >= 100, "code {code} was done {count} times");
+    }
+}

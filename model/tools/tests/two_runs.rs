@@ -1,0 +1,214 @@
+//! The check of demand 3: the model keeps the claim, every broken model is caught, and the rules
+//! with nothing broken are the model's own.
+
+use std::process::Command;
+
+use yavrinks_model::confinement::confinement_test;
+use yavrinks_model::runs::{clean_at_start, clean_part, run};
+use yavrinks_model::set;
+use yavrinks_model::step::{step, Request};
+use yavrinks_model::table::Table;
+use yavrinks_tools::generate::{
+    any_request, any_sound_table, can_meet, confinement_case, likely_request, step_case,
+    CONFINEMENT_NUMBERS,
+};
+use yavrinks_tools::rng::Rng;
+use yavrinks_tools::two_runs::rules::{Access, Holders, Rules, StandIn, BROKEN};
+use yavrinks_tools::two_runs::runs::Move;
+use yavrinks_tools::two_runs::shrink::{replay, shrink};
+use yavrinks_tools::two_runs::start::draw_start;
+use yavrinks_tools::two_runs::tally::Actor;
+use yavrinks_tools::two_runs::trial::{draw_pair, try_pairs, Drawn};
+
+/// Pairs within which a broken model must be caught. A few hundred are enough.
+const LIMIT: u64 = 20_000;
+
+#[test]
+fn the_model_keeps_the_claim() {
+    let trial = try_pairs(&Rules::DOCUMENT, 1, 600);
+    assert!(trial.found.is_none(), "{:?}", trial.found);
+    assert_eq!(trial.pairs, 600);
+    assert!(trial.lengths_differ > 400 && trial.starts_differ > 400);
+    assert!(trial.bound_not_empty > 300 && trial.ends_differ > 500);
+    assert!(trial.made_clean > 300 && trial.tally.of_clean_by_others > 1000);
+    for code in 1..=8 {
+        let (clean, others) = trial.tally.by_code(code);
+        let counts = [clean.done, clean.refused, others.done, others.refused];
+        assert!(
+            counts.iter().all(|&count| count > 100),
+            "{code}: {counts:?}"
+        );
+    }
+    for actor in Actor::ALL {
+        assert!(trial.tally.by_actor(actor).refused > 50, "{actor:?}");
+    }
+}
+
+#[test]
+fn small_cases_still_break_the_claim_and_only_under_the_broken_rule() {
+    for broken in &BROKEN {
+        let found = try_pairs(&broken.rules, 1, LIMIT).found.expect("caught");
+        let small = shrink(&broken.rules, &found);
+        assert!(small.moves.len() <= found.moves.len());
+        assert!(small.moves.len() <= 6, "{}: {small:?}", broken.name);
+        let under = |rules| replay(rules, &small.start, &small.moves);
+        assert_eq!(under(&broken.rules), Some(small.difference.clone()));
+        assert_eq!(under(&Rules::DOCUMENT), None);
+    }
+}
+
+/// One of the two lists of a drawn pair.
+fn requests(drawn: &Drawn, second: bool) -> Vec<Request> {
+    let of_run = |next: &Move| match next {
+        Move::First(request) => (!second).then(|| request.clone()),
+        Move::Second(request) => second.then(|| request.clone()),
+        Move::Both(request) => Some(request.clone()),
+    };
+    drawn.moves.iter().filter_map(of_run).collect()
+}
+
+/// No start is lost because of what members hold in one table: both tests answer alike.
+#[test]
+fn start_tables_differ_in_members_alone() {
+    let mut rng = Rng::new(50);
+    let mut numbers = [0; 14];
+    for _ in 0..2000 {
+        let start = draw_start(&mut rng);
+        for n in set::numbers(!start.members) {
+            assert_eq!(start.first.record(n), start.second.record(n));
+        }
+        let found = confinement_test(&start.first, start.members, &start.list);
+        let second = confinement_test(&start.second, start.members, &start.list);
+        assert_eq!(found, second);
+        numbers[usize::from(found.0)] += 1;
+    }
+    // A passive object that names a member is there for one of the broken models.
+    assert!(numbers[13] > 50 && numbers[0] + numbers[13] == 2000);
+}
+
+/// The claim once more, as document 01 states it: about two whole lists, with the model's
+/// functions alone. It shows that the pairs drawn are those that the claim speaks of.
+#[test]
+fn drawn_pairs_are_two_runs_of_the_claim() {
+    let mut rng = Rng::new(51);
+    for _ in 0..300 {
+        let drawn = draw_pair(&Rules::DOCUMENT, &mut rng);
+        let start = &drawn.start;
+        for n in set::numbers(!start.members) {
+            assert_eq!(start.first.record(n), start.second.record(n));
+        }
+        let (number, bound) = confinement_test(&start.first, start.members, &start.list);
+        let second = confinement_test(&start.second, start.members, &start.list);
+        assert_eq!((number, second), (0, (0, bound)));
+        let clean = clean_at_start(&start.first, start.members, bound);
+        assert_ne!(clean, 0);
+        assert_eq!(clean_at_start(&start.second, start.members, bound), clean);
+        let (first, second) = (requests(&drawn, false), requests(&drawn, true));
+        let part = clean_part(&start.first, clean, &first);
+        assert_eq!(clean_part(&start.second, clean, &second), part);
+        let (_, first_end) = run(&start.first, &first);
+        let (_, second_end) = run(&start.second, &second);
+        for n in set::numbers(part.clean) {
+            assert_eq!(first_end.record(n), second_end.record(n));
+        }
+        let runs = drawn.runs.expect("two runs");
+        assert_eq!(runs.first.table, first_end);
+        assert_eq!(runs.second.table, second_end);
+        assert_eq!(runs.first.clean, part.clean);
+    }
+}
+
+fn assert_same_step(rules: &Rules, table: &Table, request: &Request) {
+    let mut lent = table.clone();
+    let reply = rules.step_in_place(&mut lent, request);
+    assert_eq!((reply, lent), step(table, request), "{request:?}");
+}
+
+#[test]
+fn with_nothing_broken_a_step_is_the_models_step() {
+    let mut rng = Rng::new(52);
+    for _ in 0..10_000 {
+        let table = any_sound_table(&mut rng);
+        let request = any_request(&mut rng);
+        assert_same_step(&Rules::DOCUMENT, &table, &request);
+        let request = likely_request(&mut rng, &table);
+        assert_same_step(&Rules::DOCUMENT, &table, &request);
+    }
+    for code in 1..=8 {
+        for aim in (0..=9).filter(|&aim| can_meet(code, aim)) {
+            for _ in 0..100 {
+                let case = step_case(&mut rng, code, aim);
+                assert_same_step(&Rules::DOCUMENT, &case.table, &case.request);
+            }
+        }
+    }
+}
+
+#[test]
+fn with_nothing_broken_the_test_is_the_models_test() {
+    let mut rng = Rng::new(53);
+    for aim in CONFINEMENT_NUMBERS {
+        for _ in 0..400 {
+            let case = confinement_case(&mut rng, aim);
+            let expected = confinement_test(&case.table, case.members, &case.list);
+            let found = Rules::DOCUMENT.confinement_test(&case.table, case.members, &case.list);
+            assert_eq!(found, expected);
+        }
+    }
+}
+
+/// A broken model departs from the document in steps or in the test, never in both.
+#[test]
+fn a_broken_rule_leaves_the_rest_as_it_is() {
+    let mut rng = Rng::new(54);
+    for broken in &BROKEN {
+        let rules = &broken.rules;
+        let test_is_whole = rules.access == Access::AsWritten
+            && rules.holders == Holders::All
+            && rules.stand_in == StandIn::List;
+        for _ in 0..300 {
+            let table = any_sound_table(&mut rng);
+            let request = likely_request(&mut rng, &table);
+            let may_differ = test_is_whole && matches!(request.code(), 3 | 7);
+            if !may_differ {
+                assert_same_step(rules, &table, &request);
+            }
+            let aim = rng.pick(&CONFINEMENT_NUMBERS).expect("number");
+            let case = confinement_case(&mut rng, aim);
+            let expected = confinement_test(&case.table, case.members, &case.list);
+            let found = rules.confinement_test(&case.table, case.members, &case.list);
+            if test_is_whole {
+                assert_eq!(found, expected);
+            }
+        }
+    }
+}
+
+fn command(words: &[&str]) -> (Option<i32>, String) {
+    let output = Command::new(env!("CARGO_BIN_EXE_yavrinks-tools"))
+        .arg("two-runs")
+        .args(words)
+        .output()
+        .expect("output");
+    let text = String::from_utf8(output.stdout).expect("text");
+    (output.status.code(), text)
+}
+
+#[test]
+fn the_command_tells_its_findings_by_text_and_status() {
+    let (status, text) = command(&["--broken", "fetch-not-weakened"]);
+    assert_eq!(status, Some(0));
+    assert!(text.contains("caught at pair"));
+    // No pair, nothing caught.
+    let (status, text) = command(&["--broken", "rd-one-way", "--pairs", "0"]);
+    assert_eq!(status, Some(1));
+    assert!(text.contains("NOT CAUGHT"));
+    for words in [
+        &["--broken", "nothing"][..],
+        &["--seed", "x"],
+        &["--pairs"],
+        &["pairs", "1"],
+    ] {
+        assert_eq!(command(words), (Some(2), String::new()));
+    }
+}

@@ -1,0 +1,177 @@
+//! The cases of the program `vectors`: enough of each kind, every refusal and every request reached,
+//! and the files in the program's crate are those that the generator makes.
+
+use std::collections::BTreeMap;
+use std::fs;
+use std::path::Path;
+
+use yavrinks_model::confinement::confinement_test;
+use yavrinks_model::image::{read, write};
+use yavrinks_model::step::{step, step_in_place, Request};
+use yavrinks_tools::generate::can_meet;
+use yavrinks_tools::vectors::{
+    access_cases, chain, edges, image_cases, output, parts, step_cases, test_cases, write_cases,
+};
+
+/// How often each outcome comes.
+fn counts<T: Ord>(outcomes: impl IntoIterator<Item = T>) -> BTreeMap<T, usize> {
+    let mut counts = BTreeMap::new();
+    for outcome in outcomes {
+        *counts.entry(outcome).or_insert(0) += 1;
+    }
+    counts
+}
+
+/// Fails unless exactly the given outcomes come, each often enough.
+fn expect(counts: &BTreeMap<u8, usize>, least: &[(u8, usize)]) {
+    println!("{counts:?}");
+    assert!(counts.keys().eq(least.iter().map(|(outcome, _)| outcome)));
+    for (outcome, times) in least {
+        assert!(counts[outcome] >= *times, "{outcome}: {counts:?}");
+    }
+}
+
+#[test]
+fn images_are_half_whole_and_reach_every_refusal() {
+    let cases = image_cases();
+    let numbers = cases.iter().map(|case| read(&case.image).0);
+    expect(&counts(numbers), &[(0, 100), (1, 48), (14, 40), (15, 15)]);
+    assert!(cases.len() >= 220);
+    let whole = cases.iter().filter(|case| read(&case.image).0 == 0);
+    assert_eq!(2 * whole.count(), cases.len());
+    let written = cases
+        .iter()
+        .map(|case| write(&read(&case.image).1, &mut vec![0; case.room]));
+    expect(&counts(written), &[(0, 100), (16, 60)]);
+}
+
+#[test]
+fn tables_are_written_and_refused() {
+    let written = write_cases()
+        .into_iter()
+        .map(|case| write(&case.table, &mut vec![0; case.room]));
+    expect(&counts(written), &[(0, 3), (1, 32), (16, 1)]);
+}
+
+#[test]
+fn steps_reach_every_reply_of_every_request() {
+    let cases = step_cases();
+    assert!(cases.len() >= 420);
+    let replies = counts(cases.iter().map(|case| {
+        let reply = step(&case.table, &case.request).0;
+        (case.request.code(), reply)
+    }));
+    println!("{replies:?}");
+    for code in 0..=255 {
+        for reply in (0..=9).filter(|&reply| can_meet(code, reply)) {
+            let known = (1..=8).contains(&code);
+            let least = match reply {
+                0 => 16,
+                _ if known => 6,
+                _ => 0,
+            };
+            let times = replies.get(&(code, reply)).copied().unwrap_or(0);
+            assert!(times >= least, "code {code}, reply {reply}: {times}");
+        }
+    }
+    assert!(replies.keys().all(|&(code, reply)| can_meet(code, reply)));
+    assert!(
+        replies
+            .keys()
+            .filter(|(code, _)| !(1..=8).contains(code))
+            .count()
+            >= 10
+    );
+}
+
+#[test]
+fn the_chain_is_mostly_done_and_does_every_request() {
+    let chain = chain();
+    let mut table = chain.start;
+    assert_eq!(chain.requests.len(), 2000);
+    let mut done = Vec::new();
+    let mut late = 0;
+    for (k, request) in chain.requests.iter().enumerate() {
+        if step_in_place(&mut table, request) == 0 {
+            done.push(request.code());
+            late += usize::from(k >= 1500);
+        }
+    }
+    let least: Vec<(u8, usize)> = (1..=8).map(|code| (code, 10)).collect();
+    expect(&counts(done.iter().copied()), &least);
+    assert!(done.len() >= 1400 && late >= 300, "{} {late}", done.len());
+}
+
+#[test]
+fn the_edges_have_every_code_and_every_length() {
+    let chain = edges();
+    let codes = counts(chain.requests.iter().map(Request::code));
+    assert!((0..=255).all(|code| codes.contains_key(&code)));
+    let mut table = chain.start;
+    let mut done = Vec::new();
+    let mut lengths = Vec::new();
+    for request in &chain.requests {
+        let reply = step_in_place(&mut table, request);
+        if reply == 0 {
+            done.push(request.code());
+        }
+        if let Request::Send { list, .. } | Request::Allocate { list, .. } = request {
+            assert!(reply == 2 || list.len() <= 4);
+            lengths.push((request.code(), list.len()));
+        }
+    }
+    let lengths = counts(lengths);
+    assert!((0..=255).all(|length| lengths.contains_key(&(6, length))));
+    assert!((0..=255).all(|length| lengths.contains_key(&(7, length))));
+    let least: Vec<(u8, usize)> = (1..=8).map(|code| (code, 3)).collect();
+    expect(&counts(done), &least);
+}
+
+#[test]
+fn tests_reach_every_verdict() {
+    let cases = test_cases();
+    assert!(cases.len() >= 320);
+    let verdicts = cases
+        .iter()
+        .map(|case| confinement_test(&case.table, case.members, &case.list));
+    let verdicts: Vec<(u8, u64)> = verdicts.collect();
+    let least = [(0, 100), (1, 40), (10, 40), (11, 40), (12, 40), (13, 40)];
+    expect(&counts(verdicts.iter().map(|verdict| verdict.0)), &least);
+    let bounds = counts(verdicts.iter().map(|verdict| verdict.1));
+    assert!(bounds.len() >= 40, "{} bounds", bounds.len());
+    for length in 0..=10 {
+        assert!(cases.iter().any(|case| case.list.len() == length));
+    }
+    assert!(cases.iter().any(|case| case.list.len() == 255));
+}
+
+#[test]
+fn relations_are_of_full_and_of_unsound_tables_too() {
+    let tables = access_cases();
+    assert!(tables.len() >= 60);
+    let full = tables
+        .iter()
+        .filter(|table| table.records.iter().all(|record| record.is_born()));
+    assert!(full.count() >= 20);
+    assert!(tables.iter().filter(|table| !table.is_sound()).count() >= 5);
+}
+
+/// A change of the generator or of the model is to be followed by the command `vectors`.
+#[test]
+fn the_files_of_the_program_are_up_to_date() {
+    let folder = Path::new(env!("CARGO_MANIFEST_DIR")).join("../../crates/vectors");
+    let parts = parts();
+    // The chain's file serves two parts.
+    let sizes: BTreeMap<&str, usize> = parts
+        .iter()
+        .map(|part| (part.file, part.data.len()))
+        .collect();
+    assert!(sizes.values().sum::<usize>() < 2_500_000);
+    if !folder.exists() {
+        return;
+    }
+    for part in &parts {
+        assert!(fs::read(folder.join("data").join(part.file)).unwrap() == part.data);
+    }
+    assert!(fs::read_to_string(folder.join("stdout")).unwrap() == output(&parts));
+}
