@@ -7,6 +7,7 @@ use std::path::{Path, PathBuf};
 
 use yavrinks_model::step::Request;
 use yavrinks_model::table::{Capability, Record, Table};
+use yavrinks_tools::definitions::askers::askers;
 use yavrinks_tools::definitions::cases::{subjects, Answer, Case, Part, Question};
 use yavrinks_tools::definitions::crates::{case_crates, CaseCrate};
 use yavrinks_tools::definitions::draw::{questions, Counts};
@@ -15,7 +16,7 @@ use yavrinks_tools::definitions::specs::{unfoldable, unfoldable_names, with_all_
 use yavrinks_tools::definitions::statements::declarations;
 use yavrinks_tools::definitions::verdicts::{verdicts, Verdict};
 use yavrinks_tools::definitions::wrong::wrong_cases;
-use yavrinks_tools::definitions::{clean, summary, terms, Options};
+use yavrinks_tools::definitions::{summary, terms, Options};
 use yavrinks_tools::generate::{any_damage, any_sound_table, ConfinementCase};
 use yavrinks_tools::rng::Rng;
 
@@ -277,7 +278,7 @@ fn the_default_run_asks_everything() {
 #[test]
 fn the_runs_have_whatever_could_be_taken_for_clean() {
     let cases: BTreeMap<usize, Case> = (0..).zip(default_cases()).collect();
-    let text = clean::counts(&cases).to_string();
+    let text = askers(&cases).to_string();
     let mut lines = text.lines();
     assert_eq!(lines.next(), Some("along 24 runs, requests"));
     let mut kinds = 0;

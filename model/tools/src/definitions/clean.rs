@@ -1,7 +1,7 @@
 //! Random runs from accepted tests, in which clean objects and others ask whatever could be taken for
 //! something else: objects made on the way, dead ones, unborn numbers, and actors that no object is.
 
-use super::cases::{Case, Part, Question};
+use super::cases::{Part, Question};
 use super::draw::UNKNOWN_CODES;
 use crate::generate::{actor_mut, any_request, ConfinementCase};
 use crate::rng::Rng;
@@ -11,9 +11,6 @@ use crate::two_runs::requests::{
 use crate::two_runs::rules::Rules;
 use crate::two_runs::runs::Run;
 use crate::two_runs::start::arranged_case;
-use crate::two_runs::tally::{Actor, Tally};
-use std::collections::BTreeMap;
-use std::fmt;
 use yavrinks_model::set;
 use yavrinks_model::step::{Code, Request};
 use yavrinks_model::table::{Table, DEAD};
@@ -28,7 +25,7 @@ enum Aim {
     /// A clean object asks for a number that is not in its stock.
     MakingInVain,
     MakingByOther,
-    /// An object that a clean one made, or another one.
+    /// An object asks that a clean one made, or that another made.
     Made,
     MadeByOther,
     /// A clean object destroys another.
@@ -143,75 +140,4 @@ fn any_of(rng: &mut Rng, numbers: u64) -> Option<u8> {
 
 fn dead(table: &Table) -> u64 {
     set::of((0..64).filter(|&n| table.record(n).status == DEAD))
-}
-
-/// Who asked along the runs, so that a reader sees what the definitions had to tell apart.
-#[derive(Clone, Debug, Default)]
-pub struct Counts {
-    pub runs: u64,
-    pub tally: Tally,
-    /// Requests of clean objects that were made on the way, and of dead ones.
-    pub by_made: u64,
-    pub by_dead: u64,
-}
-
-/// Counts the requests of the runs among the cases.
-pub fn counts(cases: &BTreeMap<usize, Case>) -> Counts {
-    let mut counts = Counts::default();
-    for case in cases.values() {
-        if let Question::Clean {
-            start, requests, ..
-        } = &case.question
-        {
-            counts.add(start, requests);
-        }
-    }
-    counts
-}
-
-impl Counts {
-    fn add(&mut self, start: &ConfinementCase, requests: &[Request]) {
-        let begun = Run::begin(&Rules::DOCUMENT, &start.table, start.members, &start.list);
-        let Some(mut run) = begun else {
-            return;
-        };
-        for request in requests {
-            if run.is_of_clean(request) {
-                let actor = request.actor();
-                self.by_made += u64::from(!start.table.is_born(actor));
-                self.by_dead += u64::from(run.table.record(actor).status == DEAD);
-            }
-            run.take(&Rules::DOCUMENT, request);
-        }
-        self.runs += 1;
-        self.tally.add(&run.tally);
-    }
-}
-
-impl fmt::Display for Counts {
-    fn fmt(&self, out: &mut fmt::Formatter<'_>) -> fmt::Result {
-        let by = |actor| self.tally.by_actor(actor).all();
-        let (unknown, _) = self.tally.by_code(0);
-        let (making, making_by_others) = self.tally.by_code(Code::Allocate.number());
-        writeln!(out, "along {} runs, requests", self.runs)?;
-        for (who, count) in [
-            ("of clean objects", by(Actor::Clean)),
-            ("  that were made on the way", self.by_made),
-            ("  that were dead", self.by_dead),
-            ("  with unknown codes", unknown.all()),
-            ("  that made an object", making.done),
-            ("  that asked for one in vain", making.refused),
-            (
-                "of members and bound objects",
-                by(Actor::Member) + by(Actor::Bound),
-            ),
-            ("of objects that these made", by(Actor::MadeByOthers)),
-            ("of unborn numbers", by(Actor::Unborn)),
-            ("of actors above 63", by(Actor::NoNumber)),
-            ("of others, that made an object", making_by_others.done),
-        ] {
-            writeln!(out, "  {who:<34}{count:>4}")?;
-        }
-        Ok(())
-    }
 }

@@ -2,6 +2,7 @@
 //! antt, in a copy of the repository, and the toolchain has to prove that the definitions there
 //! give the same answers.
 
+pub mod askers;
 pub mod cases;
 pub mod clean;
 pub mod crates;
@@ -19,6 +20,7 @@ pub mod wrong;
 pub use options::Options;
 
 use crate::rng::Rng;
+use askers::askers;
 use cases::Case;
 use crates::case_crates;
 use scratch::Scratch;
@@ -78,7 +80,7 @@ fn compare(options: &Options, scratch: &Scratch) -> io::Result<Outcome> {
     let mut found = verdicts(&scratch.check(&crates, &below)?, &crates);
 
     let refused = found.split_off(&right.len());
-    let mut text = summary::counts(&right) + &clean::counts(&right).to_string();
+    let mut text = summary::counts(&right) + &askers(&right).to_string();
     text += &summary::not_accepted(&right, &crates, &found, &scratch.folder);
     text += &summary::not_refused(&wrong, &crates, &refused, &scratch.folder);
     text += &format!("seed {}, {} s\n", options.seed, start.elapsed().as_secs());
