@@ -2,27 +2,18 @@
 -- hold. So the table that reading returns is one, refused or not. Assumes nothing.
 use mathlib.Core.List.{List}
 use Prim.Native.Nat.{ℕ, _+_, _*_, _/_, _%_, _^_, _<_}
-use native.Mathlib.Nat.{pow-le-pow-right, lt-of-lt-of-le}
-use native.Mathlib.Omega.{arith}
 use lib.Dec.{eqb}
-use lib.ListN.{length, getD, take, drop, length-take}
+use lib.ListN.{getD, drop}
 use Rattle.mask.proofs.Tests.{byCases}
 use Rattle.table.specs.Cells.{IsTable, emptySlot, unbornRecord}
 use Rattle.table.proofs.Lists.{length-tabulate}
 use Rattle.table.proofs.Places.{at-tabulate}
 use Rattle.table.proofs.Value.{RecordValue, SlotValue, record-value, slot-value, unborn-value, empty-value, values-are-table, unborn-is-table}
-use Rattle.octets.specs.BigEndian.{numberOf}
 use Rattle.image.specs.Layout.{Version, one, partOf, recordFrom, slotFrom, tableFrom}
 use Rattle.image.specs.Images.{readNumber, readRefusal, readOf}
-use Rattle.octets.proofs.BigEndian.{Bytes, number-lt}
-use Rattle.octets.proofs.Parts.{bytes-take, bytes-drop}
+use Rattle.octets.proofs.BigEndian.{Bytes}
+use Rattle.octets.proofs.Parts.{bytes-drop, number-take}
 use Rattle.image.proofs.Places.{bytes-part}
-
--- at most k bytes
-number-take : (k : ℕ) (bs : List ℕ) → Bytes bs → numberOf (take k bs) < 256 ^ k
-number-take k bs b =
-    lt-of-lt-of-le (number-lt (take k bs) (bytes-take k bs b))
-    (pow-le-pow-right {n = 256} (omega arith) {i = length (take k bs)} {j = k} (simp length-take (omega arith)))
 
 record-typed : (v : Version) (part : List ℕ) → Bytes part → RecordValue (recordFrom v part)
 unfolding recordFrom

@@ -42,6 +42,10 @@ number-lt (b ∷ bs) h =
     rw (number-from (0 * 256 + b) bs, pow-succ' 256 (length bs))
     (digits-lt {q = 0 * 256 + b} {m = 256} (omega (arith, h 0)) (number-lt bs (λ i. h (suc i))))
 
+-- at most k bytes
+pub number-within : (k : ℕ) (bs : List ℕ) → length bs ≤ k → Bytes bs → numberOf bs < 256 ^ k
+number-within k bs h b = lt-of-lt-of-le (number-lt bs b) (pow-le-pow-right {n = 256} (omega arith) {i = length bs} {j = k} h)
+
 -- bytes that are read in two goes
 pub number-append : (before : ℕ) (xs ys : List ℕ) → numberFrom before (xs ++ ys) ≡ numberFrom (numberFrom before xs) ys
 unfolding numberFrom

@@ -2,7 +2,7 @@
 -- Assumes nothing.
 use mathlib.Core.Path.{_≡_, _∙_, ap, ap₂}
 use mathlib.Core.List.{List, _++_}
-use Prim.Native.Nat.{ℕ, _+_, _*_, _≤_}
+use Prim.Native.Nat.{ℕ, _+_, _*_, _^_, _≤_, _<_}
 use native.Mathlib.Omega.{arith}
 use lib.Dec.{ltb}
 use lib.ListN.{length, getD, take, drop, length-take, List·getD-eq-default}
@@ -10,7 +10,7 @@ use lib.Seq.{getD-take, getD-drop, getD-append-add}
 use borrow.Author.Tests.{ltb-true, ltb-false}
 use Rattle.mask.proofs.Tests.{byCases}
 use Rattle.octets.specs.BigEndian.{byteAt, numberFrom, numberOf}
-use Rattle.octets.proofs.BigEndian.{Bytes, number-next}
+use Rattle.octets.proofs.BigEndian.{Bytes, number-next, number-within}
 
 pub beside : {a b c d : List ℕ} → a ≡ b → c ≡ d → a ++ c ≡ b ++ d
 beside e f = ap₂ (λ (x y : List ℕ). x ++ y) e f
@@ -22,6 +22,10 @@ pub bytes-take : (n : ℕ) (xs : List ℕ) → Bytes xs → Bytes (take n xs)
 bytes-take n xs h i = byCases (ltb i n)
     (λ e. rw (getD-take n xs i 0 (ltb-true i n e)) (h i))
     (λ e. let g = ltb-false i n e in rw (List·getD-eq-default (take n xs) 0 {n = i} (simp length-take (omega arith))) (omega arith))
+
+-- the first k bytes as a number
+pub number-take : (k : ℕ) (bs : List ℕ) → Bytes bs → numberOf (take k bs) < 256 ^ k
+number-take k bs b = number-within k (take k bs) (simp length-take (omega arith)) (bytes-take k bs b)
 
 -- the element n of what stands after xs
 pub getD-after : (xs ys : List ℕ) (k n : ℕ) → length xs ≡ k → getD (xs ++ ys) (k + n) 0 ≡ getD ys n 0

@@ -11,15 +11,14 @@ use mathlib.Core.Path.{_≡_, refl, sym, _∙_, ap}
 use mathlib.Core.Bool.{true}
 use mathlib.Core.List.{List, [], _∷_}
 use Prim.Native.Nat.{ℕ, _^_, _≤_, _<_}
-use native.Mathlib.Nat.{lt-of-lt-of-le, pow-le-pow-right}
 use native.Mathlib.Omega.{arith}
 use lib.Dec.{ltb}
-use lib.ListN.{length, take, drop, length-append, length-take}
+use lib.ListN.{length, take, drop, length-append}
 use borrow.Author.Tests.{ltb-true, ltb-false}
 use Rattle.mask.proofs.Tests.{byCases}
 use Rattle.octets.specs.BigEndian.{byteAt, bytesOf, numberOf}
-use Rattle.octets.proofs.BigEndian.{Bytes, number-lt, number-written}
-use Rattle.octets.proofs.Parts.{bytes-drop, bytes-take}
+use Rattle.octets.proofs.BigEndian.{Bytes, number-written}
+use Rattle.octets.proofs.Parts.{bytes-drop, number-take}
 use Rattle.requests.specs.Asks.{Ask, read, write, fetch, store, revoke, send, allocate, destroy, unknown, codeOf, PairsInBits, InBits, pairsIn}
 use Rattle.wire.specs.declared.Written.{Written}
 use Rattle.wire.specs.Wires.{codeIn, actorIn, countIn, sizeOf, listFits, fitsOf, listIn, fieldsOf, askFrom}
@@ -35,10 +34,7 @@ use Rattle.wire.proofs.WriteBack.{fields-back}
 -- fields within their bits -------------------------------------------------------------------
 module _ (bs : List ℕ) (b : Bytes bs) where
   number-in-bits : (m n : ℕ) → numberOf (take n (drop m bs)) < 256 ^ n
-  number-in-bits m n =
-      let xs = take n (drop m bs) in
-      lt-of-lt-of-le (number-lt xs (bytes-take n (drop m bs) (bytes-drop m bs b)))
-      (pow-le-pow-right {n = 256} (omega arith) {i = length xs} {j = n} (omega (arith, length-take n (drop m bs))))
+  number-in-bits m n = number-take n (drop m bs) (bytes-drop m bs b)
 
   actor-in-bits : actorIn bs < 2 ^ 8
   actor-in-bits = byCases (ltb 1 (length bs))

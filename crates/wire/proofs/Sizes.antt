@@ -3,15 +3,13 @@ use mathlib.Core.Path.{_≡_, refl, sym, _∙_, ap}
 use mathlib.Core.Logic.{_≢_}
 use mathlib.Core.Bool.{Bool, true, cond, _&&_, _||_}
 use mathlib.Core.List.{List}
-use Prim.Native.Nat.{ℕ, _+_, _*_, _^_, _≤_, _<_}
-use native.Mathlib.Nat.{lt-of-lt-of-le, pow-le-pow-right}
+use Prim.Native.Nat.{ℕ, _+_, _*_, _≤_}
 use native.Mathlib.Omega.{arith}
 use lib.Dec.{ltb, leb, eqb}
 use lib.ListN.{length}
 use borrow.Author.Tests.{leb-true, eqb-true, eq-eqb, ne-eqb}
 use Rattle.mask.proofs.Tests.{byCases, and-true, or-left, or-right}
-use Rattle.octets.specs.BigEndian.{byteAt, numberOf}
-use Rattle.octets.proofs.BigEndian.{Bytes, number-lt}
+use Rattle.octets.specs.BigEndian.{byteAt}
 use Rattle.wire.specs.Wires.{codeIn, countIn, listPlace, sizeOf, listFits, fitsOf}
 
 -- a code's row of sizes, and a code with no row
@@ -67,7 +65,3 @@ module _ (bs : List ℕ) (h : fitsOf bs ≡ true) where
 
   pub allocate-count : codeIn bs ≡ 7 → countIn bs ≤ 4
   allocate-count e = fits-count (or-right (eqb (codeIn bs) 6) (eqb (codeIn bs) 7) (eq-eqb (codeIn bs) 7 e))
-
--- four bytes fit a word
-pub word-fits : (four : List ℕ) → length four ≤ 4 → Bytes four → numberOf four < 2 ^ 32
-word-fits four h b = lt-of-lt-of-le (number-lt four b) (pow-le-pow-right {n = 256} (omega arith) {i = length four} {j = 4} h)

@@ -1,6 +1,6 @@
 -- `wire::word_of` meets its contract: four bytes fit the word. Assumes nothing.
 use native.Mathlib.Omega.{arith}
-use Rattle.wire.proofs.Sizes.{word-fits}
+use Rattle.octets.proofs.BigEndian.{number-within}
 use borrow.Author.Needs.{needs}
 use Rattle.wire.proofs.reading.word_of.Statement.{statement}
 use Rattle.wire.proofs.reading.word_of.Tie as tie
@@ -10,7 +10,7 @@ number-of-requires c κs = search needs
 
 cast-result : tie.Need-cast-result
 cast-result c = let e = c .number-of .ensures in
-    omega (arith, word-fits (c .before .before .args .four .now) (c .before .before .pre) (λ i. c .before .shared-slice-known .given i .fits))
+    omega (arith, number-within 4 (c .before .before .args .four .now) (c .before .before .pre) (λ i. c .before .shared-slice-known .given i .fits))
 
 returns : tie.Need-returns
 returns c = search needs
