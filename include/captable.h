@@ -153,7 +153,7 @@ uint8_t captable_sound(captable_table table);
 uint8_t captable_step(captable_table *table, const uint8_t *request, size_t length);
 
 /* The same by value: the reply, and the table after it. */
-captable_outcome captable_stepped(captable_table table, const uint8_t *request, size_t length);
+captable_outcome captable_step_by_value(captable_table table, const uint8_t *request, size_t length);
 
 /* Potential access, whole; for a table that is not sound the number 1 and no rights. */
 captable_relation captable_access(captable_table table);

@@ -15,6 +15,10 @@ use Rattle.captable.specs.declared.Outcome.{Outcome}
 use Rattle.captable.specs.declared.Relation.{Relation}
 use Rattle.captable.specs.declared.Finding.{Finding}
 
+-- the version of the calls, 0.1.0: the first number times 65,536, the second times 256, the third
+abbrev pub version : ℕ
+version = 256
+
 abbrev pub soundNumber : Table → ℕ
 soundNumber t = cond (sound t) 0 1
 

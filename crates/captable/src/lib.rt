@@ -13,7 +13,7 @@ ghost use Rattle.image.specs.Images.{writeNumber, readOf, writeRefusal, written
 ghost use Rattle.report.specs.Printed.{printedOf};
 ghost use Rattle.wire.specs.Wires.{askFrom};
 ghost use Rattle.wire.specs.Entries.{entriesIn};
-ghost use Rattle.captable.specs.Crossing.{soundNumber, stepped, related, found, loaded};
+ghost use Rattle.captable.specs.Crossing.{version, soundNumber, stepped, related, found, loaded};
 
 // A table that a step or a reading of an image gives, and its number. The table stands first, so that no copy of it has to be moved.
 #[repr(C)]
@@ -37,6 +37,14 @@ pub struct Finding {
     pub number: u8,
 }
 
+// The version of these calls, for a caller to hold to that of the header it was built with.
+#[no_mangle]
+pub extern "C" fn captable_version() -> u32
+    ensures { λ r. ⌜ r ≡ version ⌝ }
+{
+    256
+}
+
 // 0 for a sound table, 1 for any other.
 #[no_mangle]
 pub extern "C" fn captable_sound(table: Table) -> u8
@@ -51,7 +59,7 @@ pub extern "C" fn captable_sound(table: Table) -> u8
 // One request on a table by value: its reply's number, and the table after it. The bytes are the code and then document 01's
 // fields; any others get 2. A refusal gives back the very table.
 #[no_mangle]
-pub extern "C" fn captable_stepped(table: Table, request: &[u8]) -> Outcome
+pub extern "C" fn captable_step_by_value(table: Table, request: &[u8]) -> Outcome
     ensures { λ r. ⌜ r ≡ stepped (stepOf table (askFrom (now (request .entry)))) ⌝ }
 {
     let asked = wire::reading::request_in(request);
@@ -73,7 +81,7 @@ pub extern "C" fn captable_step(table: &mut Table, request: &[u8]) -> u8
     ensures { λ r. ⌜ (r ≡ replyNumber (stepOf (now (table .entry)) (askFrom (now (request .entry))) .reply)) × (now (table .exit) ≡ stepOf (now (table .entry)) (askFrom (now (request .entry))) .table) ⌝ }
 {
     let before = *table;
-    let a = captable_stepped(before, request);
+    let a = captable_step_by_value(before, request);
     let after = a.table;
     *table = after;
     a.number

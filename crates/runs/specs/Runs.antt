@@ -33,7 +33,7 @@ pub data Had : Table → Type 0 where
 -- a run from a table over requests as bytes: the last table, and the numbers that came back, first to last
 pub data Taken : Table → List (List ℕ) → Table → List ℕ → Type 0 where
   none : {t : Table} → Taken t [] t []
-  -- table in, table out: what `captable_stepped` returned
+  -- table in, table out: what `captable_step_by_value` returned
   by-value : {t u : Table} {bs : List ℕ} {bss : List (List ℕ)} {ns : List ℕ} (o : Outcome) → o ≡ stepped (stepOf t (askFrom bs))
       → Taken (o .table) bss u ns → Taken t (bs ∷ bss) u (o .number ∷ ns)
   -- on a table lent to be changed: the number that `captable_step` returned, and what it left in the table

@@ -28,7 +28,7 @@ pub trait Calls {
     /// One request on a table by value.
     fn stepped(&self, table: &mut raw::Table, request: &mut [u8]) -> raw::Outcome {
         // SAFETY: pointer and length are of one slice.
-        unsafe { raw::captable_stepped(*table, request.as_mut_ptr(), request.len()) }
+        unsafe { raw::captable_step_by_value(*table, request.as_mut_ptr(), request.len()) }
     }
 
     /// Potential access.

@@ -35,7 +35,7 @@ impl Call {
     pub fn name(self) -> &'static str {
         match self {
             Call::Step => "captable_step",
-            Call::Stepped => "captable_stepped",
+            Call::Stepped => "captable_step_by_value",
             Call::Sound => "captable_sound",
             Call::Access => "captable_access",
             Call::Test => "captable_test",

@@ -62,7 +62,7 @@ impl Calls for TouchedTable {
 
 #[test]
 fn a_table_changed_on_a_refusal_is_found() {
-    is_found(&TouchedTable, "captable_stepped", "table given back");
+    is_found(&TouchedTable, "captable_step_by_value", "table given back");
 }
 
 /// Writes one byte after the image.

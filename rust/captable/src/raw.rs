@@ -81,7 +81,7 @@ extern "C" {
     ///
     /// # Safety
     /// `request` points to `length` bytes.
-    pub fn captable_stepped(table: Table, request: *const u8, length: usize) -> Outcome;
+    pub fn captable_step_by_value(table: Table, request: *const u8, length: usize) -> Outcome;
     /// Potential access of a table.
     pub fn captable_access(table: Table) -> Relation;
     /// The confinement test of a set of members and a list, two bytes for each entry.

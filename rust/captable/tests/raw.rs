@@ -4,7 +4,7 @@
 mod common;
 
 use captable::raw::{
-    captable_confine, captable_read, captable_step, captable_stepped, captable_test, captable_write,
+    captable_confine, captable_read, captable_step, captable_step_by_value, captable_test, captable_write,
 };
 use captable::{Table, WR};
 use common::{k, set};
@@ -19,7 +19,7 @@ fn both_forms_of_the_step_agree() {
         let (number, outcome) = unsafe {
             (
                 captable_step(lent.as_raw_mut(), request.as_ptr(), request.len()),
-                captable_stepped(*k().as_raw(), request.as_ptr(), request.len()),
+                captable_step_by_value(*k().as_raw(), request.as_ptr(), request.len()),
             )
         };
         assert_eq!(outcome.number, number);
@@ -35,7 +35,7 @@ fn no_bytes_may_come_with_a_null_pointer() {
     // SAFETY: a length of 0 asks for no byte.
     unsafe {
         assert_eq!(captable_step(table.as_raw_mut(), null(), 0), 2);
-        assert_eq!(captable_stepped(*k().as_raw(), null(), 0).number, 2);
+        assert_eq!(captable_step_by_value(*k().as_raw(), null(), 0).number, 2);
         assert_eq!(
             captable_test(*k().as_raw(), set(&[5]), null(), 0).number,
             12

@@ -1,6 +1,6 @@
 -- `captable_step` meets its contract: a walk of its MIR, by hand. The borrow is opened, the table is copied out and passed with the
--- request's bytes to `captable_stepped`, and the borrow is closed at the table of what that gives.
--- All that it knows of `captable_stepped` is that it meets its contract, and nothing here depends on the fields of `Table`.
+-- request's bytes to `captable_step_by_value`, and the borrow is closed at the table of what that gives.
+-- All that it knows of `captable_step_by_value` is that it meets its contract, and nothing here depends on the fields of `Table`.
 -- Assumes nothing.
 use mathlib.Core.Path.{_≡_, refl, ap}
 use Prim.Native.Nat.{ℕ, _+_, _-_, _*_, _<_, _^_}
@@ -51,10 +51,10 @@ use Rattle.table.proofs.Table.Laws as T′
 use Rattle.captable.proofs.Outcome as S
 use Rattle.captable.proofs.Outcome.Laws as S′
 use Rattle.captable.proofs.Values.{t-val, o-val, b-val, t-typed, o-typed}
-use Rattle.captable.proofs.captable_stepped as g
-use Rattle.captable.proofs.captable_stepped.Symbol as g-def
-use Rattle.captable.proofs.captable_stepped.Symbol.{name as #answer}
-use Rattle.captable.proofs.captable_stepped.Met as g-thm
+use Rattle.captable.proofs.captable_step_by_value as g
+use Rattle.captable.proofs.captable_step_by_value.Symbol as g-def
+use Rattle.captable.proofs.captable_step_by_value.Symbol.{name as #answer}
+use Rattle.captable.proofs.captable_step_by_value.Met as g-thm
 use Rattle.captable.proofs.captable_step.Key.{name as #step}
 use Rattle.captable.proofs.captable_step as f
 use Rattle.captable.proofs.captable_step.Statement as stated
@@ -76,7 +76,7 @@ number-fits r v is = LL.owed S.the-type S′.the-laws r (v ∷ []) is .1 .0 .1
 spelled : (r : Outcome) (v : Val) → Is S.the-row r (v ∷ []) → v ≡ o-val r
 spelled r v is = ap only (LL.tells S.the-type S′.the-laws r (v ∷ []) is)
 
--- what `captable_stepped` says of its result
+-- what `captable_step_by_value` says of its result
 abbrev Said : Table → List ℕ → Outcome → Type 0
 Said h bs r = r ≡ stepped (stepOf h (askFrom bs))
 
@@ -113,7 +113,7 @@ module _ {M : Type 1} (𝓤 : URA M) (H : Heap 𝓤) (A : Atoms 𝓤) (W : Given
       feqI ! (List Val) (vptr b o ∷ []) (vptr b o ∷ []) refl $ fjoin3 ! $ nothing ! $ move ! (2 ∷ 0 ∷ []) $ fjoin ! $ move ! (1 ∷ 0 ∷ []) $ fjoin ! $
       frame ! $ owned ! u8 (Is u8) (uint-makes 𝓤 H A W w8) (r .number) _ (refl, fits) $ done !
 
-  -- the call of `captable_stepped`: what it is passed, and what it asks
+  -- the call of `captable_step_by_value`: what it is passed, and what it asks
   abbrev to-answer : Answers 𝓤 H A at-mem run .Ghost
   to-answer = (((κ′, tt), (q′, tt), tt, (h, (s, tt)), (t-val h ∷ [], (b-val s ∷ [], tt))), tt)
 
@@ -178,4 +178,4 @@ captable-step-spec 𝓤 H 𝓜 𝓖 𝓡 =
     entered 𝓤 H (tripleOf 𝓤 H (𝓖 .A) f.signature (f.spec 𝓤 H (𝓖 .A) (𝓜 .mem) (𝓡 .run)))
     (tables 𝓤 H 𝓜 𝓡 code.env .C) (tables 𝓤 H 𝓜 𝓡 code.env .Λ) #step code.function (code.unfolded 𝓤 H 𝓜 𝓡)
     (meets 𝓤 H (𝓖 .A) (givenOf 𝓤 H 𝓜 𝓖) (𝓜 .mem) (𝓡 .run) (tablesOf 𝓤 H 𝓜 (tables 𝓤 H 𝓜 𝓡 code.env))
-    (cited 𝓤 H (Answers 𝓤 H (𝓖 .A) (𝓜 .mem) (𝓡 .run)) 𝓜 𝓡 code.env #answer g-def.routine code.calls-captable·captable-stepped (g-thm.met 𝓤 H 𝓜 𝓖 𝓡)))
+    (cited 𝓤 H (Answers 𝓤 H (𝓖 .A) (𝓜 .mem) (𝓡 .run)) 𝓜 𝓡 code.env #answer g-def.routine code.calls-captable·captable-step-by-value (g-thm.met 𝓤 H 𝓜 𝓖 𝓡)))

@@ -82,7 +82,7 @@ fn by_value(
             .bytes("request", bytes)
     };
     same(
-        "captable_stepped",
+        "captable_step_by_value",
         || case(before, ask),
         facts(expected, before, &ask.bytes),
         facts(&found, &table, &bytes),

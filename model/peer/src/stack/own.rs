@@ -35,7 +35,7 @@ fn taken(call: Call, sample: &Sample, pattern: u8) -> Option<usize> {
             raw::captable_step as *const (),
             [&raw mut table as u64, start, length],
         ),
-        Call::Stepped => (raw::captable_stepped as *const (), [given, start, length]),
+        Call::Stepped => (raw::captable_step_by_value as *const (), [given, start, length]),
         Call::Sound => (raw::captable_sound as *const (), [0; 3]),
         Call::Access => (raw::captable_access as *const (), [given, 0, 0]),
         Call::Test => (

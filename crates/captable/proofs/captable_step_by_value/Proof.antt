@@ -1,4 +1,4 @@
--- `captable::captable_stepped` meets its contract. Assumes nothing.
+-- `captable::captable_step_by_value` meets its contract. Assumes nothing.
 use mathlib.Core.Path.{_∙_, ap}
 use Prim.Native.Nat.{ℕ}
 use Rattle.requests.specs.Asks.{askOf}
@@ -7,8 +7,8 @@ use Rattle.wire.specs.declared.Asked.{Asked}
 use Rattle.wire.proofs.Few.{asked-ask}
 use Rattle.captable.specs.Crossing.{stepped}
 use borrow.Author.Needs.{needs}
-use Rattle.captable.proofs.captable_stepped.Statement.{statement}
-use Rattle.captable.proofs.captable_stepped.Tie as tie
+use Rattle.captable.proofs.captable_step_by_value.Statement.{statement}
+use Rattle.captable.proofs.captable_step_by_value.Tie as tie
 
 request-in-requires : tie.Need-request-in-requires
 request-in-requires c κs = search needs
@@ -26,6 +26,6 @@ returns c = let t = c .before .before .before .before .before .before .args .tab
     ∙ ap stepped (c .before .before .step .ensures
     ∙ ap (λ (q : Asked). stepOf t (askOf (q .request) (q .list))) (c .before .before .before .before .request-in .ensures) ∙ ap (stepOf t) (asked-ask bs))
 
-pub captable-stepped-spec : {M : Type 1} → statement M
-captable-stepped-spec =
+pub captable-step-by-value-spec : {M : Type 1} → statement M
+captable-step-by-value-spec =
     tie.close (tie.spec request-in-requires step-requires of-reply-requires returns)
