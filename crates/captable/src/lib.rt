@@ -12,7 +12,7 @@ ghost use Rattle.confinement.specs.Tests.{testOf};
 ghost use Rattle.image.specs.Images.{writeNumber, readOf, writeRefusal, writtenOf};
 ghost use Rattle.report.specs.Printed.{printedOf};
 ghost use Rattle.wire.specs.Wires.{askFrom};
-ghost use Rattle.wire.specs.Entries.{entriesIn};
+ghost use Rattle.entries.specs.Entries.{entriesIn};
 ghost use Rattle.captable.specs.Crossing.{version, soundNumber, stepped, related, found, loaded};
 
 // A table that a step or a reading of an image gives, and its number. The table stands first, so that no copy of it has to be moved.
@@ -62,7 +62,7 @@ pub extern "C" fn captable_sound(table: Table) -> u8
 pub extern "C" fn captable_step_by_value(table: Table, request: &[u8]) -> Outcome
     ensures { λ r. ⌜ r ≡ stepped (stepOf table (askFrom (now (request .entry)))) ⌝ }
 {
-    let asked = wire::reading::request_in(request);
+    let asked = wire::request_in(request);
     let what = asked.request;
     let list = asked.list;
     let done = steps::step(table, what, list);
@@ -119,7 +119,7 @@ pub extern "C" fn captable_access(table: Table) -> Relation
 pub extern "C" fn captable_test(table: Table, members: u64, list: &[u8]) -> Finding
     ensures { λ r. ⌜ r ≡ found (testOf table members (entriesIn (now (list .entry)))) ⌝ }
 {
-    let entries = wire::entries::list_of(list);
+    let entries = entries::list_of(list);
     let tested = confinement::test(table, members, entries);
     let verdict = tested.verdict;
     let number = numbers::of_verdict(verdict);

@@ -13,7 +13,7 @@ use Rattle.confinement.specs.Tests.{testOf}
 use Rattle.octets.specs.BigEndian.{bytesOf, numberFrom}
 use Rattle.image.specs.Layout.{Version, storedAt, objectBytes, slotsBytes, storedBytes, recordsBytes, imageOf, partOf, recordFrom, slotFrom, tableFrom}
 use Rattle.image.specs.Images.{refusalAs, readOf, readNumber}
-use Rattle.wire.specs.Entries.{entryIn, entriesIn}
+use Rattle.entries.specs.Entries.{entryIn, entriesIn}
 use Rattle.report.specs.Input.{wrongLength, membersOf, listOf}
 use Rattle.report.specs.Decisions.{loadedDecision, decisionOf}
 use Rattle.report.specs.Printed.{decimal, numberLines, refusedLine, acceptedLines, linesOf, printedOf}

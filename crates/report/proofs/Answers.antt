@@ -23,8 +23,8 @@ use Rattle.confinement.specs.declared.Verdict.the-variants.{Accepted, TableUnso
 use Rattle.confinement.specs.StandIn.{entriesOf}
 use Rattle.confinement.specs.Refusals.{verdictNumber}
 use Rattle.confinement.specs.Tests.{testOf}
-use Rattle.wire.specs.Entries.{heldEntries}
-use Rattle.wire.proofs.Lists.{test-bytes}
+use Rattle.entries.specs.Entries.{heldEntries}
+use Rattle.entries.proofs.Lists.{test-bytes}
 use Rattle.report.specs.declared.Decision.{Decision}
 use Rattle.report.specs.Input.{fixedLength, wrongLength, imagePart, membersOf, listOf}
 use Rattle.report.specs.Decisions.{refusedBy, testDecision, loadedDecision, decisionOf}

@@ -8,7 +8,7 @@ use lib.ListN.{length, take, drop}
 use Rattle.table.specs.declared.Capability.{Capability}
 use Rattle.octets.specs.BigEndian.{byteAt, numberOf}
 use Rattle.image.specs.Layout.{one, imageLength}
-use Rattle.wire.specs.Entries.{entriesIn}
+use Rattle.entries.specs.Entries.{entriesIn}
 
 -- members, count
 abbrev pub fixedLength : ℕ

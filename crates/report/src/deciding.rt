@@ -39,7 +39,7 @@ fn decide_loaded(l: Loaded, input: &[u8]) -> Decision
     }
     let t = l.table;
     let members = octets::number_of(&input[1923..1931]);
-    let list = wire::entries::list_of(&input[1932..]);
+    let list = entries::list_of(&input[1932..]);
     let tested = confinement::test(t, members, list);
     let verdict = tested.verdict;
     let number = numbers::of_verdict(verdict);

@@ -20,7 +20,7 @@ use Rattle.confinement.specs.StandIn.{boundOf}
 use Rattle.confinement.specs.Refusals.{verdictOf, verdictNumber}
 use Rattle.confinement.specs.Tests.{isAccepted, testOf}
 use Rattle.image.proofs.Typed.{read-is-table}
-use Rattle.wire.specs.Entries.{entriesIn}
+use Rattle.entries.specs.Entries.{entriesIn}
 use Rattle.isolation.specs.Clean.{Clean, cleanAtStart, cleanAfter, cleanReplies}
 use Rattle.isolation.specs.Demand.{BothAccepted, TwoRuns}
 use Rattle.isolation.proofs.TwoRuns.{two-runs}

@@ -17,7 +17,7 @@ use Rattle.confinement.specs.Agreement.{AgreeOutside}
 use Rattle.confinement.specs.Tests.{testOf}
 use Rattle.image.specs.Images.{readOf}
 use Rattle.wire.specs.Wires.{askFrom}
-use Rattle.wire.specs.Entries.{entriesIn}
+use Rattle.entries.specs.Entries.{entriesIn}
 use Rattle.isolation.specs.Clean.{Clean, cleanAtStart, cleanAfter, cleanAtEnd, cleanRequests}
 use Rattle.isolation.specs.Demand.{AgreeOn}
 use Rattle.captable.specs.declared.Outcome.{Outcome}

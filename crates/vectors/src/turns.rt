@@ -76,7 +76,7 @@ fn lent_bytes(t: Table, bytes: &[u8], count: usize) -> Outcome {
 // A step on the table lent: the request is written as bytes, as the firmware hands it in. One whose list is too long has none, and is
 // refused by 2 as well.
 fn lent(t: Table, request: Request, list: PairList) -> Outcome {
-    let written = wire::writing::request_bytes(request, list);
+    let written = wire_out::request_bytes(request, list);
     let bytes = written.bytes;
     lent_bytes(t, &bytes, written.count)
 }

@@ -1,4 +1,2 @@
--- What crosses as bytes: requests, and the entries of a test.
+-- A request from its bytes.
 pub mod Wires
-pub mod Written
-pub mod Entries

@@ -4,7 +4,7 @@ use Prim.Native.Nat.{ℕ}
 use Rattle.confinement.specs.declared.EntryList.{EntryList}
 use Rattle.confinement.specs.StandIn.{entriesOf}
 use Rattle.confinement.specs.Tests.{testOf}
-use Rattle.wire.proofs.Lists.{test-bytes}
+use Rattle.entries.proofs.Lists.{test-bytes}
 use Rattle.captable.specs.Crossing.{found}
 use borrow.Author.Needs.{needs}
 use Rattle.captable.proofs.captable_test.Statement.{statement}

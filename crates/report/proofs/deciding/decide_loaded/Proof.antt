@@ -1,7 +1,7 @@
 -- `decide_loaded` meets its contract: a refusal of reading by its number, else what the test answers to the members and the list of the
 -- input. Assumes nothing.
 use mathlib.Core.Path.{_∙_, ap}
-use Rattle.wire.specs.Entries.{heldEntries}
+use Rattle.entries.specs.Entries.{heldEntries}
 use Rattle.report.proofs.Inputs.{list-part}
 use Rattle.report.proofs.Answers.{loaded-refused, loaded-tested}
 use borrow.Author.Needs.{needs}

@@ -1,0 +1,2 @@
+-- The entries of a test as bytes.
+pub mod Entries

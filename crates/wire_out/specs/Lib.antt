@@ -1,0 +1,2 @@
+-- A request as bytes, written.
+pub mod Written
