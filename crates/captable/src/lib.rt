@@ -9,7 +9,8 @@ ghost use Rattle.refusals.specs.Replies.{number as replyNumber};
 ghost use Rattle.steps.specs.Steps.{stepOf};
 ghost use Rattle.access.specs.Answers.{accessOf};
 ghost use Rattle.confinement.specs.Tests.{testOf};
-ghost use Rattle.image.specs.Images.{writeNumber, readOf, writeRefusal, writtenOf};
+ghost use Rattle.image.specs.Images.{readOf};
+ghost use Rattle.image_out.specs.Written.{writeNumber, writeRefusal, writtenOf};
 ghost use Rattle.report.specs.Printed.{printedOf};
 ghost use Rattle.wire.specs.Wires.{askFrom};
 ghost use Rattle.entries.specs.Entries.{entriesIn};
@@ -134,7 +135,7 @@ pub extern "C" fn captable_test(table: Table, members: u64, list: &[u8]) -> Find
 pub extern "C" fn captable_read(image: &[u8]) -> Outcome
     ensures { λ r. ⌜ r ≡ loaded (readOf (now (image .entry))) ⌝ }
 {
-    let l = image::reading::read(image);
+    let l = image::read(image);
     let reply = l.reply;
     let table = l.table;
     let number = numbers::of_read(reply);
@@ -150,7 +151,7 @@ pub extern "C" fn captable_write(table: Table, buffer: &mut [u8]) -> u8
     ensures number { λ r. ⌜ r ≡ writeNumber (writeRefusal table (now (buffer .entry))) ⌝ }
     ensures left { λ _. ⌜ now (buffer .exit) ≡ writtenOf table (now (buffer .entry)) ⌝ }
 {
-    let reply = image::writing::write(table, buffer);
+    let reply = image_out::write(table, buffer);
     numbers::of_write(reply)
 }
 

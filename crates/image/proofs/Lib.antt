@@ -1,8 +1,6 @@
--- The laws that the proofs cite, and the theorems on round trips.
+-- The laws that the proofs cite, and that what is read is a table.
 pub mod Fields
 pub mod Places
 pub mod Load
-pub mod Store
 pub mod Replies
-pub mod RoundTrip
 pub mod Typed

@@ -1,25 +1,20 @@
--- Reading and writing by cases: from what a check found to the reply, and from the reply to what is given back or left.
--- Assumes nothing.
+-- Reading by cases: from what a check found to the reply, and from the reply to what is given back. Assumes nothing.
 use mathlib.Core.Path.{_≡_, refl, sym, _∙_, ap}
 use mathlib.Core.Logic.{_≢_}
 use mathlib.Core.Bool.{Bool, true, false, not, _||_}
 use mathlib.Core.List.{List}
-use Prim.Native.Nat.{ℕ, _≤_, _<_}
+use Prim.Native.Nat.{ℕ}
 use lib.Dec.{eqb}
 use lib.ListN.{length, take}
-use borrow.Author.Tests.{lt-ltb, le-ltb, eq-eqb, ne-eqb, eqb-false}
+use borrow.Author.Tests.{eq-eqb, ne-eqb, eqb-false}
 use Rattle.mask.proofs.Tests.{byCases, byEq, or-left, or-right}
-use Rattle.table.specs.declared.Table.{Table}
 use Rattle.table.specs.Soundness.{sound}
 use Rattle.image.specs.declared.ReadReply.{ReadReply}
 use Rattle.image.specs.declared.ReadReply.the-variants as R
-use Rattle.image.specs.declared.WriteReply.{WriteReply}
-use Rattle.image.specs.declared.WriteReply.the-variants as W
 use Rattle.octets.specs.BigEndian.{byteAt, numberOf}
 use Rattle.image.specs.Layout.{Version, one, versionByte, imageLength, tableFrom}
-use Rattle.image.specs.Images.{readNumber, writeNumber, refusalAs, readRefusal, refusedRead, readOf, writeRefusal, filledBy, writtenOf}
+use Rattle.image.specs.Images.{readNumber, refusalAs, readRefusal, refusedRead, readOf}
 
--- reading ------------------------------------------------------------------------------
 -- all that bytes are checked for, as an image of a version
 pub record Accepted (v : Version) (bytes : List ℕ) : Type 0 where
   pub long : length bytes ≡ imageLength v
@@ -84,26 +79,3 @@ module _ (bytes : List ℕ) where
   pub read-done : Accepted one bytes → readOf bytes ≡ record { reply = R.Done; table = tableFrom one bytes }
   unfolding readOf
   read-done a = rw (refusal-none one bytes a, readOf) refl
-
--- writing, which is version 1 too -----------------------------------------------------
-module _ (t : Table) (buffer : List ℕ) where
-  pub write-unsound : sound t ≡ false → writeRefusal t buffer ≡ W.TableUnsound
-  unfolding writeRefusal
-  write-unsound e = rw (e, writeRefusal) refl
-
-  module _ (e : sound t ≡ true) where
-    pub write-short : length buffer < imageLength one → writeRefusal t buffer ≡ W.BufferShort
-    unfolding writeRefusal
-    write-short h = rw (e, lt-ltb _ _ h, writeRefusal) refl
-
-    pub write-done : imageLength one ≤ length buffer → writeRefusal t buffer ≡ W.Done
-    unfolding writeRefusal
-    write-done h = rw (e, le-ltb _ _ h, writeRefusal) refl
-
-  pub written-refused : (why : WriteReply) → writeRefusal t buffer ≡ why → eqb (writeNumber why) 0 ≡ false → writtenOf t buffer ≡ buffer
-  unfolding writtenOf
-  written-refused why e h = rw (e, h, writtenOf) refl
-
-  pub written-done : writeRefusal t buffer ≡ W.Done → writtenOf t buffer ≡ filledBy one t buffer
-  unfolding writtenOf
-  written-done e = rw (e, writtenOf) refl

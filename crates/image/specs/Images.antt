@@ -1,31 +1,22 @@
--- What reading and writing return and leave. "Reading checks 14, 15, then 1; the failing read returns the unborn table.
--- Writing checks 1, then 16"; it "fills the first 1,923 bytes and touches no byte after them".
+-- What reading returns. "Reading checks 14, 15, then 1; the failing read returns the unborn table."
 use mathlib.Core.Bool.{true, false, not, _||_}
-use mathlib.Core.List.{List, _++_}
+use mathlib.Core.List.{List}
 use Prim.Native.Nat.{ℕ}
-use lib.Dec.{ltb, eqb}
-use lib.ListN.{length, drop, take}
-use Rattle.table.specs.declared.Table.{Table}
+use lib.Dec.{eqb}
+use lib.ListN.{length, take}
 use Rattle.table.specs.Cells.{unbornTable}
 use Rattle.table.specs.Soundness.{sound}
 use Rattle.image.specs.declared.ReadReply.{ReadReply}
 use Rattle.image.specs.declared.ReadReply.the-variants as R
-use Rattle.image.specs.declared.WriteReply.{WriteReply}
-use Rattle.image.specs.declared.WriteReply.the-variants as W
 use Rattle.image.specs.declared.Loaded.{Loaded}
 use Rattle.octets.specs.BigEndian.{byteAt, numberOf}
-use Rattle.image.specs.Layout.{Version, one, versionByte, imageLength, imageOf, tableFrom}
+use Rattle.image.specs.Layout.{Version, one, versionByte, imageLength, tableFrom}
 
 abbrev pub readNumber : ReadReply → ℕ
 readNumber R.Done = 0
 readNumber R.TableUnsound = 1
 readNumber R.LengthWrong = 14
 readNumber R.VersionWrong = 15
-
-abbrev pub writeNumber : WriteReply → ℕ
-writeNumber W.Done = 0
-writeNumber W.TableUnsound = 1
-writeNumber W.BufferShort = 16
 
 -- why bytes are no image of a version. 14: "slice not 1,923 bytes, or its length field says otherwise"; then 15: "version byte
 -- not 1"; then 1
@@ -53,19 +44,3 @@ readOf bytes =
       | true ↦ record { reply = R.Done; table = tableFrom one bytes }
       | false ↦ refusedRead (readRefusal bytes)
     ]
-
--- 1, then 16: "buffer below 1,923 bytes"
-unfoldable pub writeRefusal : Table → List ℕ → WriteReply
-writeRefusal t buffer =
-    elim (sound t) [
-      | false ↦ W.TableUnsound
-      | true ↦ elim (ltb (length buffer) (imageLength one)) [ true ↦ W.BufferShort | false ↦ W.Done ]
-    ]
-
--- a buffer with a table's image in front, and "no byte after" it touched
-abbrev pub filledBy : Version → Table → List ℕ → List ℕ
-filledBy v t buffer = imageOf v t ++ drop (imageLength v) buffer
-
--- what the buffer holds afterwards
-unfoldable pub writtenOf : Table → List ℕ → List ℕ
-writtenOf t buffer = elim (eqb (writeNumber (writeRefusal t buffer)) 0) [ true ↦ filledBy one t buffer | false ↦ buffer ]

@@ -3,13 +3,14 @@
 use access::AccessReply;
 use confinement::Verdict;
 use image::ReadReply;
-use image::WriteReply;
+use image_out::WriteReply;
 use refusals::Reply;
 ghost use mathlib.Core.Path.{_≡_};
 ghost use Rattle.refusals.specs.Replies.{number};
 ghost use Rattle.access.specs.Answers.{accessNumber};
 ghost use Rattle.confinement.specs.Refusals.{verdictNumber};
-ghost use Rattle.image.specs.Images.{readNumber, writeNumber};
+ghost use Rattle.image.specs.Images.{readNumber};
+ghost use Rattle.image_out.specs.Written.{writeNumber};
 
 // A reply of a request.
 pub fn of_reply(r: Reply) -> u8

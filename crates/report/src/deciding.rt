@@ -56,6 +56,6 @@ pub fn decide(input: &[u8]) -> Decision
     if wrong_length(input) {
         return refused(17);
     }
-    let loaded = image::reading::read(&input[..1923]);
+    let loaded = image::read(&input[..1923]);
     decide_loaded(loaded, input)
 }

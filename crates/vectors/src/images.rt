@@ -18,7 +18,7 @@ fn untouched() -> [u8; 4096]
 // The image that comes next in the file and fills the slice.
 fn load(fd: i32, bytes: &mut [u8]) -> Loaded {
     io::read_full(fd, bytes);
-    image::reading::read(bytes)
+    image::read(bytes)
 }
 
 // Reads an image, prints the number and the table, and gives the table.
@@ -37,7 +37,7 @@ fn read(fd: i32, length: u16) -> Table {
 fn write(t: Table, length: u16) {
     let mut space = untouched();
     let n = io::count(length as isize, &space);
-    let reply = image::writing::write(t, &mut space[..n]);
+    let reply = image_out::write(t, &mut space[..n]);
     output::number(numbers::of_write(reply) as u64);
     output::digest(digest::of_space(&space));
 }

@@ -1,6 +1,6 @@
 -- `captable::captable_write` meets its contract. Assumes nothing.
 use mathlib.Core.Path.{_∙_, ap}
-use Rattle.image.specs.Images.{writeNumber}
+use Rattle.image_out.specs.Written.{writeNumber}
 use borrow.Author.Needs.{needs}
 use Rattle.captable.proofs.captable_write.Statement.{statement}
 use Rattle.captable.proofs.captable_write.Tie as tie

@@ -1,4 +1,4 @@
--- `image::reading::read_slots` meets its contract. The loop's invariant: the first `j` slots are the part's. Assumes nothing.
+-- `image::read_slots` meets its contract. The loop's invariant: the first `j` slots are the part's. Assumes nothing.
 use mathlib.Core.Path.{_≡_, refl}
 use Prim.Native.Nat.{_≤_, _-_}
 use native.Mathlib.Omega.{arith}
@@ -7,8 +7,8 @@ use Rattle.table.specs.Lists.{tabulate}
 use Rattle.image.specs.Layout.{slotFrom}
 use Rattle.octets.proofs.Lists.{filled-none, filled-more, filled-all}
 use borrow.Author.Needs.{needs}
-use Rattle.image.proofs.reading.read_slots.Statement.{statement}
-use Rattle.image.proofs.reading.read_slots.Tie as tie
+use Rattle.image.proofs.read_slots.Statement.{statement}
+use Rattle.image.proofs.read_slots.Tie as tie
 
 abbrev Inv-loop : tie.InvT-loop
 Inv-loop part slots₀ j₀ slots j = (j ≤ 8) × (length slots ≡ 8) × (take j slots ≡ tabulate j (slotFrom part))

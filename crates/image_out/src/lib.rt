@@ -1,17 +1,23 @@
 // Writing a table's image into a buffer: slots, a record, the records, and then the whole with its checks.
-use crate::HEAD;
-use crate::IMAGE_LENGTH;
-use crate::RECORD_LENGTH;
-use crate::Stored;
-use crate::WriteReply;
+use image::HEAD;
+use image::IMAGE_LENGTH;
+use image::RECORD_LENGTH;
+use image::Stored;
 use table::Capability;
 use table::Table;
 ghost use mathlib.Core.Path.{_≡_};
 ghost use mathlib.Core.List.{_++_};
 ghost use Prim.Native.Nat.{_≤_};
 ghost use lib.ListN.{length, take, drop};
 ghost use Rattle.image.specs.Layout.{one, recordLength, imageLength, slotsBytes, storedBytes, recordsBytes};
-ghost use Rattle.image.specs.Images.{writeRefusal, writtenOf};
+ghost use Rattle.image_out.specs.Written.{writeRefusal, writtenOf};
+
+// Done, or why an image was not written.
+pub enum WriteReply {
+    Done,
+    TableUnsound,
+    BufferShort,
+}
 
 // Fills sixteen bytes with eight slots.
 fn write_slots(bytes: &mut [u8], slots: [Capability; 8])

@@ -7,11 +7,11 @@ use lib.ListN.{length, take, length-set, length-take, length-drop}
 use Rattle.table.specs.Lists.{tabulate}
 use Rattle.table.specs.Cells.{slotAt}
 use Rattle.octets.proofs.Lists.{filled-none, filled-more, filled-all}
 use Rattle.image.specs.Layout.{one}
-use Rattle.image.proofs.Store.{stored-taken, writtenTo, records-none, records-more, records-all}
+use Rattle.image_out.proofs.Store.{stored-taken, writtenTo, records-none, records-more, records-all}
 use borrow.Author.Needs.{needs}
-use Rattle.image.proofs.writing.write_records.Statement.{statement}
-use Rattle.image.proofs.writing.write_records.Tie as tie
+use Rattle.image_out.proofs.write_records.Statement.{statement}
+use Rattle.image_out.proofs.write_records.Tie as tie
 
 abbrev Inv-slots : tie.InvT-slots
 Inv-slots buffer t nothing n place object slots₀ j₀ slots j = (j ≤ 8) × (length slots ≡ 8) × (take j slots ≡ tabulate j (slotAt t n))

@@ -1,10 +1,10 @@
--- `image::reading::read_record` meets its contract: each field is what its reader ensures. Four bytes fit 32 bits, so the word
+-- `image::read_record` meets its contract: each field is what its reader ensures. Four bytes fit 32 bits, so the word
 -- fits and so do the two halves of the stock. Assumes nothing.
 use native.Mathlib.Omega.{arith}
 use Rattle.image.proofs.Load.{four-fits, stored-made}
 use borrow.Author.Needs.{needs}
-use Rattle.image.proofs.reading.read_record.Statement.{statement}
-use Rattle.image.proofs.reading.read_record.Tie as tie
+use Rattle.image.proofs.read_record.Statement.{statement}
+use Rattle.image.proofs.read_record.Tie as tie
 
 sub-number-of : tie.Need-sub-number-of
 sub-number-of c = search needs

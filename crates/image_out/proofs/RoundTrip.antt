@@ -21,18 +21,20 @@ use Rattle.table.specs.declared.Table.{Table}
 use Rattle.table.specs.Cells.{IsTable, slotAt, emptySlot, unbornRecord}
 use Rattle.table.specs.Lists.{tabulate}
 use Rattle.table.specs.Soundness.{sound}
 use Rattle.image.specs.declared.Loaded.{Loaded}
 use Rattle.image.specs.declared.ReadReply.the-variants as R
 use Rattle.image.specs.Layout.{Version, one, recordLength, imageLength, storedAt, storedBytes, recordsBytes, imageOf, partOf, recordFrom, slotFrom, storedFrom, tableFrom}
-use Rattle.image.specs.Images.{readNumber, refusalAs, readRefusal, readOf, writtenOf}
+use Rattle.image.specs.Images.{readNumber, refusalAs, readRefusal, readOf}
+use Rattle.image_out.specs.Written.{writtenOf}
 use Rattle.octets.proofs.BigEndian.{Bytes}
 use Rattle.table.proofs.Lists.{length-tabulate, getD-tabulate}
 use Rattle.octets.proofs.Lists.{tabulate-is}
 use Rattle.image.proofs.Load.{slot-place}
-use Rattle.image.proofs.Replies.{Accepted, accepted, read-done, write-done, written-done}
+use Rattle.image.proofs.Replies.{Accepted, accepted, read-done}
+use Rattle.image_out.proofs.Left.{write-done, written-done}
 use Rattle.octets.proofs.Parts.{beside}
 use Rattle.image.proofs.Fields.{record-stored, slot-stored, stored-part}
 use Rattle.image.proofs.Places.{says-image, versed-image, head-read, length-image, part-image, length-part, bytes-part}
 
 -- a byte list: what the slice of an image holds
 abbrev pub AreBytes : List ℕ → Type 0

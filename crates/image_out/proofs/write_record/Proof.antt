@@ -3,10 +3,10 @@
 use mathlib.Core.Path.{_∙_}
 use native.Mathlib.Omega.{arith}
 use lib.ListN.{length-set}
-use Rattle.image.proofs.Store.{stored-left}
+use Rattle.image_out.proofs.Store.{stored-left}
 use borrow.Author.Needs.{needs}
-use Rattle.image.proofs.writing.write_record.Statement.{statement}
-use Rattle.image.proofs.writing.write_record.Tie as tie
+use Rattle.image_out.proofs.write_record.Statement.{statement}
+use Rattle.image_out.proofs.write_record.Tie as tie
 
 slice-write-part : tie.Need-slice-write-part
 slice-write-part c = search needs

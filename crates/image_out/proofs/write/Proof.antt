@@ -5,13 +5,13 @@ use borrow.Author.Tests.{not-true, not-false}
 use native.Mathlib.Omega.{arith}
 use lib.ListN.{length-set}
 use lib.Seq.{sets-eq}
-use Rattle.image.specs.declared.WriteReply.the-variants as W
+use Rattle.image_out.specs.declared.WriteReply.the-variants as W
 use Rattle.image.specs.Layout.{one, head}
-use Rattle.image.proofs.Replies.{write-unsound, write-short, write-done, written-refused, written-done}
-use Rattle.image.proofs.Store.{image-left}
+use Rattle.image_out.proofs.Left.{write-unsound, write-short, write-done, written-refused, written-done}
+use Rattle.image_out.proofs.Store.{image-left}
 use borrow.Author.Needs.{needs}
-use Rattle.image.proofs.writing.write.Statement.{statement}
-use Rattle.image.proofs.writing.write.Tie as tie
+use Rattle.image_out.proofs.write.Statement.{statement}
+use Rattle.image_out.proofs.write.Tie as tie
 
 is-sound-requires : tie.Need-is-sound-requires
 is-sound-requires c κs = search needs

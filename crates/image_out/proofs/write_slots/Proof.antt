@@ -5,11 +5,11 @@ use Prim.Native.Nat.{_≤_, _*_, _-_}
 use native.Mathlib.Omega.{arith}
 use lib.ListN.{length, take, length-set}
 use lib.Seq.{take-all}
 use Rattle.image.specs.Layout.{slotsBytes}
-use Rattle.image.proofs.Store.{slots-more}
+use Rattle.image_out.proofs.Store.{slots-more}
 use borrow.Author.Needs.{needs}
-use Rattle.image.proofs.writing.write_slots.Statement.{statement}
-use Rattle.image.proofs.writing.write_slots.Tie as tie
+use Rattle.image_out.proofs.write_slots.Statement.{statement}
+use Rattle.image_out.proofs.write_slots.Tie as tie
 
 abbrev Inv-loop : tie.InvT-loop
 Inv-loop bytes₀ slots j₀ bytes j = (j ≤ 8) × (length bytes ≡ 16) × (take (2 * j) bytes ≡ slotsBytes slots j)

@@ -1,4 +1,4 @@
--- `image::reading::read` meets its contract: each check that fails gives its refusal, and a table that passes them all is given
+-- `image::read` meets its contract: each check that fails gives its refusal, and a table that passes them all is given
 -- back. Assumes nothing.
 use mathlib.Core.Path.{refl, sym, _∙_, ap}
 use borrow.Author.Tests.{not-true, not-false}
@@ -10,8 +10,8 @@ use Rattle.image.specs.Layout.{one}
 use Rattle.image.proofs.Places.{field-right, field-wrong}
 use Rattle.image.proofs.Replies.{refusal-length, refusal-field, refusal-version, refusal-unsound, read-refused, read-done}
 use borrow.Author.Needs.{needs}
-use Rattle.image.proofs.reading.read.Statement.{statement}
-use Rattle.image.proofs.reading.read.Tie as tie
+use Rattle.image.proofs.read.Statement.{statement}
+use Rattle.image.proofs.read.Tie as tie
 
 not-read-requires : tie.Need-not-read-requires
 not-read-requires c κs = search needs

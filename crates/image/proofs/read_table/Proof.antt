@@ -1,4 +1,4 @@
--- `image::reading::read_table` meets its contract. The loops' invariants, `ReadTo`: how many records and slots have been read.
+-- `image::read_table` meets its contract. The loops' invariants, `ReadTo`: how many records and slots have been read.
 -- Assumes nothing.
 use mathlib.Core.Path.{_≡_}
 use Prim.Native.Nat.{_≤_, _+_, _*_, _-_}
@@ -8,8 +8,8 @@ use lib.ListN.{length-take, length-drop}
 use Rattle.image.specs.Layout.{one}
 use Rattle.image.proofs.Load.{stored-lent, ReadTo, read-none, record-more, slot-more, read-all}
 use borrow.Author.Needs.{needs}
-use Rattle.image.proofs.reading.read_table.Statement.{statement}
-use Rattle.image.proofs.reading.read_table.Tie as tie
+use Rattle.image.proofs.read_table.Statement.{statement}
+use Rattle.image.proofs.read_table.Tie as tie
 
 abbrev Inv-slots : tie.InvT-slots
 Inv-slots image t₀ n at slots j₀ t j = (j ≤ 8) × ReadTo one image t (n + 1) (n * 8 + j)

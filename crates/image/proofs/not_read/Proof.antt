@@ -1,7 +1,7 @@
--- `image::reading::not_read` meets its contract, by what `unborn_table` ensures. Assumes nothing.
+-- `image::not_read` meets its contract, by what `unborn_table` ensures. Assumes nothing.
 use borrow.Author.Needs.{needs}
-use Rattle.image.proofs.reading.not_read.Statement.{statement}
-use Rattle.image.proofs.reading.not_read.Tie as tie
+use Rattle.image.proofs.not_read.Statement.{statement}
+use Rattle.image.proofs.not_read.Tie as tie
 
 unborn-table-requires : tie.Need-unborn-table-requires
 unborn-table-requires c κs = search needs

@@ -1,0 +1,2 @@
+-- The stored image, written.
+pub mod Written
