@@ -66,7 +66,7 @@ pub extern "C" fn captable_step_by_value(table: Table, request: &[u8]) -> Outcom
     let asked = wire::request_in(request);
     let what = asked.request;
     let list = asked.list;
-    let done = steps::step(table, what, list);
+    let done = kernel::step(table, what, list);
     let reply = done.reply;
     let next = done.table;
     let number = numbers::of_reply(reply);

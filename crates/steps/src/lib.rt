@@ -1,13 +1,17 @@
-// A step, document 01: a table and a request in, the reply and the table out.
+// A step, document 01: a table and a request in, the reply and the table out. Here are the five requests that change one cell, a word
+// or a slot; each is its checks and then its effect, on a table that is sound when it comes here.
+use effects::copies::fetched;
+use effects::copies::landed;
+use refusals::ALIVE;
+use refusals::Need;
 use refusals::Reply;
-use requests::PairList;
-use requests::Request;
+use refusals::check_slot;
+use table::Capability;
 use table::Table;
-
-pub mod each; // each.rt: the eight requests, each with its checks and its effect
-
 ghost use mathlib.Core.Path.{_≡_};
-ghost use Rattle.requests.specs.Asks.{askOf};
+ghost use mathlib.Core.Bool.{true};
+ghost use Rattle.table.specs.Soundness.{sound};
+ghost use Rattle.requests.specs.Asks.{read as readAsk, write as writeAsk, fetch as fetchAsk, store as storeAsk, revoke as revokeAsk};
 ghost use Rattle.steps.specs.Steps.{stepOf};
 
 // What a step gives back: the reply, and the table after it.
@@ -16,39 +20,122 @@ pub struct Stepped {
     pub table: Table,
 }
 
-// One request on a table: the reply, and the table after it. A refused request gives back the very table.
-pub fn step(t: Table, request: Request, list: PairList) -> Stepped
-    ensures { λ r. ⌜ r ≡ stepOf t (askOf request list) ⌝ }
+// The actor's word becomes the target's word.
+pub fn read(t: Table, actor: u8, s: u8) -> Stepped
+    requires { ⌜ sound t ≡ true ⌝ }
+    ensures { λ r. ⌜ r ≡ stepOf t (readAsk actor s) ⌝ }
 {
-    if !table::is_sound(t) {
+    let v = check_slot(t, actor, s, false, ALIVE, Need::ReadOrWeak);
+    let reply = v.reply;
+    let mut u = t;
+    if !v.done {
         return Stepped {
-            reply: Reply::TableUnsound,
-            table: t,
+            reply: reply,
+            table: u,
         };
     }
-    match request {
-        Request::Read { actor, t: s } => each::read(t, actor, s),
-        Request::Write { actor, t: s, word } => each::write(t, actor, s, word),
-        Request::Fetch { actor, t: s, i, j } => each::fetch(t, actor, s, i, j),
-        Request::Store { actor, t: s, i, j } => each::store(t, actor, s, i, j),
-        Request::Revoke { actor, t: s, j } => each::revoke(t, actor, s, j),
-        Request::Send {
-            actor,
-            t: s,
-            word,
-            reply,
-        } => each::send(t, actor, s, word, list, reply),
-        Request::Allocate {
-            actor,
-            n,
-            kind,
-            part,
-            i,
-        } => each::allocate(t, actor, n, kind, part, i, list),
-        Request::Destroy { actor, t: s } => each::destroy(t, actor, s),
-        Request::Unknown { code: _, actor: _ } => Stepped {
-            reply: Reply::FieldInvalid,
-            table: t,
-        },
+    let g = v.target as usize;
+    let w = u.records[g].word;
+    let k = actor as usize;
+    u.records[k].word = w;
+    Stepped {
+        reply: reply,
+        table: u,
+    }
+}
+
+// The target's word becomes the word.
+pub fn write(t: Table, actor: u8, s: u8, word: u32) -> Stepped
+    requires { ⌜ sound t ≡ true ⌝ }
+    ensures { λ r. ⌜ r ≡ stepOf t (writeAsk actor s word) ⌝ }
+{
+    let v = check_slot(t, actor, s, false, ALIVE, Need::Write);
+    let reply = v.reply;
+    let mut u = t;
+    if !v.done {
+        return Stepped {
+            reply: reply,
+            table: u,
+        };
+    }
+    let g = v.target as usize;
+    u.records[g].word = word;
+    Stepped {
+        reply: reply,
+        table: u,
+    }
+}
+
+// The target's slot i to the actor's slot j, weakened if rd is absent.
+pub fn fetch(t: Table, actor: u8, s: u8, i: u8, j: u8) -> Stepped
+    requires { ⌜ sound t ≡ true ⌝ }
+    ensures { λ r. ⌜ r ≡ stepOf t (fetchAsk actor s i j) ⌝ }
+{
+    let v = check_slot(t, actor, s, (7 < i) | (7 < j), ALIVE, Need::ReadOrWeak);
+    let reply = v.reply;
+    let mut u = t;
+    if !v.done {
+        return Stepped {
+            reply: reply,
+            table: u,
+        };
+    }
+    let g = v.target as usize;
+    let k = actor as usize;
+    let got = fetched(v.rights, u.slots[g * 8 + i as usize]);
+    let new = landed(u.slots[k * 8 + j as usize], got);
+    u.slots[k * 8 + j as usize] = new;
+    Stepped {
+        reply: reply,
+        table: u,
+    }
+}
+
+// The actor's slot i to the target's slot j.
+pub fn store(t: Table, actor: u8, s: u8, i: u8, j: u8) -> Stepped
+    requires { ⌜ sound t ≡ true ⌝ }
+    ensures { λ r. ⌜ r ≡ stepOf t (storeAsk actor s i j) ⌝ }
+{
+    let v = check_slot(t, actor, s, (7 < i) | (7 < j), ALIVE, Need::Write);
+    let reply = v.reply;
+    let mut u = t;
+    if !v.done {
+        return Stepped {
+            reply: reply,
+            table: u,
+        };
+    }
+    let g = v.target as usize;
+    let k = actor as usize;
+    let new = landed(u.slots[g * 8 + j as usize], u.slots[k * 8 + i as usize]);
+    u.slots[g * 8 + j as usize] = new;
+    Stepped {
+        reply: reply,
+        table: u,
+    }
+}
+
+// The target's slot j is emptied.
+pub fn revoke(t: Table, actor: u8, s: u8, j: u8) -> Stepped
+    requires { ⌜ sound t ≡ true ⌝ }
+    ensures { λ r. ⌜ r ≡ stepOf t (revokeAsk actor s j) ⌝ }
+{
+    let v = check_slot(t, actor, s, 7 < j, ALIVE, Need::Write);
+    let reply = v.reply;
+    let mut u = t;
+    if !v.done {
+        return Stepped {
+            reply: reply,
+            table: u,
+        };
+    }
+    let g = v.target as usize;
+    u.slots[g * 8 + j as usize] = Capability {
+        target: 0,
+        rights: 0,
+    };
+    Stepped {
+        reply: reply,
+        table: u,
     }
 }

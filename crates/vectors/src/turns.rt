@@ -55,7 +55,7 @@ pub fn case(fd: i32, number: u64) -> bool {
     let t = input::raw_table(&bytes);
     let request = input::request(&bytes, 1920);
     let list = input::pair_list(&bytes, 1920);
-    answer(number, steps::step(t, request, list));
+    answer(number, kernel::step(t, request, list));
     true
 }
 
@@ -93,7 +93,7 @@ pub fn link(fd: i32, number: u64, t: Table, in_place: bool) -> Turn {
     let after = if in_place {
         answer_lent(number, lent(t, request, list))
     } else {
-        answer(number, steps::step(t, request, list))
+        answer(number, kernel::step(t, request, list))
     };
     Turn {
         found: true,

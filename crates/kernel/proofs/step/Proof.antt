@@ -3,11 +3,11 @@
 use mathlib.Core.Path.{refl, sym, _∙_}
 use borrow.Author.Tests.{not-true, not-false}
 use Rattle.requests.specs.Asks.{askOf}
 use Rattle.steps.proofs.Ways.{step-told, rows-invalid, unsound-refused}
 use Rattle.steps.proofs.Uses.{unknown-fields}
 use borrow.Author.Needs.{needs}
-use Rattle.steps.proofs.step.Statement.{statement}
-use Rattle.steps.proofs.step.Tie as tie
+use Rattle.kernel.proofs.step.Statement.{statement}
+use Rattle.kernel.proofs.step.Tie as tie
 
 is-sound-requires : tie.Need-is-sound-requires
 is-sound-requires c κs = search needs

@@ -8,8 +8,8 @@ use Rattle.effects.specs.Effects.{effect, withWord}
 use Rattle.steps.proofs.Ways.{through-refused, through-done}
 use Rattle.steps.proofs.Uses.{read-uses}
 use borrow.Author.Needs.{needs}
-use Rattle.steps.proofs.each.read.Statement.{statement}
-use Rattle.steps.proofs.each.read.Tie as tie
+use Rattle.steps.proofs.read.Statement.{statement}
+use Rattle.steps.proofs.read.Tie as tie
 
 check-slot-requires : tie.Need-check-slot-requires
 check-slot-requires c κs = search needs

@@ -4,11 +4,11 @@ use mathlib.Core.Path.{refl, sym, _∙_, ap}
 use Rattle.refusals.specs.Refusals.{unfit}
 use Rattle.effects.specs.Effects.{effect}
 use Rattle.refusals.proofs.Rows.{refuse-yes, refuse-no}
 use Rattle.steps.proofs.Ways.{rows-invalid, rows-unfit, later-refused, later-done}
 use Rattle.steps.proofs.Uses.{allocate-fields, allocate-placed, allocate-later}
 use borrow.Author.Needs.{needs}
-use Rattle.steps.proofs.each.allocate.Statement.{statement}
-use Rattle.steps.proofs.each.allocate.Tie as tie
+use Rattle.kernel.proofs.allocate.Statement.{statement}
+use Rattle.kernel.proofs.allocate.Tie as tie
 
 list-bad-requires : tie.Need-list-bad-requires
 list-bad-requires c κs = search needs

@@ -5,11 +5,11 @@ use borrow.Author.Tests.{not-false}
 use Rattle.requests.specs.Asks.{pairsOf}
 use Rattle.effects.specs.Effects.{effect, sent}
 use Rattle.refusals.proofs.Rows.{refuse-yes, refuse-no}
 use Rattle.steps.proofs.Ways.{through-refused, last-refused, last-done}
 use Rattle.steps.proofs.Uses.{passiveRow, passive-seen, send-uses, send-list}
 use borrow.Author.Needs.{needs}
-use Rattle.steps.proofs.each.send.Statement.{statement}
-use Rattle.steps.proofs.each.send.Tie as tie
+use Rattle.kernel.proofs.send.Statement.{statement}
+use Rattle.kernel.proofs.send.Tie as tie
 
 list-bad-requires : tie.Need-list-bad-requires
 list-bad-requires c κs = search needs

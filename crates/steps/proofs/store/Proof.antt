@@ -10,8 +10,8 @@ use Rattle.refusals.proofs.Rows.{slots-placed}
 use Rattle.steps.proofs.Ways.{through-refused, through-done}
 use Rattle.steps.proofs.Uses.{store-uses}
 use borrow.Author.Needs.{needs}
-use Rattle.steps.proofs.each.store.Statement.{statement}
-use Rattle.steps.proofs.each.store.Tie as tie
+use Rattle.steps.proofs.store.Statement.{statement}
+use Rattle.steps.proofs.store.Tie as tie
 
 check-slot-requires : tie.Need-check-slot-requires
 check-slot-requires c κs = search needs

@@ -10,8 +10,8 @@ use Rattle.refusals.proofs.Rows.{slots-placed}
 use Rattle.steps.proofs.Ways.{through-refused, through-done}
 use Rattle.steps.proofs.Uses.{fetch-uses}
 use borrow.Author.Needs.{needs}
-use Rattle.steps.proofs.each.fetch.Statement.{statement}
-use Rattle.steps.proofs.each.fetch.Tie as tie
+use Rattle.steps.proofs.fetch.Statement.{statement}
+use Rattle.steps.proofs.fetch.Tie as tie
 
 check-slot-requires : tie.Need-check-slot-requires
 check-slot-requires c κs = search needs

@@ -10,8 +10,8 @@ use Rattle.refusals.proofs.Rows.{slot-placed}
 use Rattle.steps.proofs.Ways.{through-refused, through-done}
 use Rattle.steps.proofs.Uses.{revoke-uses}
 use borrow.Author.Needs.{needs}
-use Rattle.steps.proofs.each.revoke.Statement.{statement}
-use Rattle.steps.proofs.each.revoke.Tie as tie
+use Rattle.steps.proofs.revoke.Statement.{statement}
+use Rattle.steps.proofs.revoke.Tie as tie
 
 check-slot-requires : tie.Need-check-slot-requires
 check-slot-requires c κs = search needs

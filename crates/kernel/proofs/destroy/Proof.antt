@@ -4,11 +4,11 @@ use mathlib.Core.Path.{refl}
 use borrow.Author.Tests.{eq-eqb, ne-eqb, not-false}
 use Rattle.effects.specs.Effects.{effect, destroyed}
 use Rattle.refusals.proofs.Rows.{refuse-yes, refuse-no}
 use Rattle.steps.proofs.Ways.{through-refused, last-refused, last-done}
 use Rattle.steps.proofs.Uses.{itselfRow, destroy-uses}
 use borrow.Author.Needs.{needs}
-use Rattle.steps.proofs.each.destroy.Statement.{statement}
-use Rattle.steps.proofs.each.destroy.Tie as tie
+use Rattle.kernel.proofs.destroy.Statement.{statement}
+use Rattle.kernel.proofs.destroy.Tie as tie
 
 check-slot-requires : tie.Need-check-slot-requires
 check-slot-requires c κs = search needs
