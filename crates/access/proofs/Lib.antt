@@ -1,7 +1,4 @@
-pub mod Reach
-pub mod Exact
-pub mod Feeds
-pub mod Saturation
+-- The laws that the proofs cite: the words to start from, and those of a table.
 pub mod Marks
 pub mod StartWords
 pub mod TableWords

@@ -15,9 +15,10 @@ use Rattle.mask.specs.Sets.{has}
 use Rattle.mask.proofs.Tests.{byCases, byEq, clash, or-right}
 use Rattle.mask.proofs.Bits.{has-high}
 use Rattle.mask.proofs.Words.{has-or, has-one, one-lt}
-use Rattle.access.specs.Relation.{Right, rd, wr, wk, tx, bitAt, Holding, Can}
-use Rattle.access.specs.Helpers.{wordAt, Kept, Derived, markTo, markIf}
-use Rattle.access.proofs.Saturation.{bit-high, kept-refl, kept-trans, join-kept, join-derived}
+use Rattle.relation.specs.Relation.{Right, rd, wr, wk, tx, bitAt, Holding, Can}
+use Rattle.relation.specs.Helpers.{wordAt, Kept, Derived}
+use Rattle.access.specs.Helpers.{markTo, markIf}
+use Rattle.relation.proofs.Saturation.{bit-high, kept-refl, kept-trans, join-kept, join-derived}
 
 -- a number of a set of 64 bits is below 64
 pub has-low : (m n : ℕ) → m < 2 ^ 64 → has n m ≡ true → n < 64

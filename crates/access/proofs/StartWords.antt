@@ -12,9 +12,10 @@ use Rattle.mask.proofs.Tests.{clash, and-true, and-intro}
 use Rattle.mask.proofs.Bits.{has-zero}
 use Rattle.table.specs.Cells.{slotOf}
 use Rattle.table.specs.declared.Capability.{Capability}
-use Rattle.access.specs.Relation.{Right, rd, wr, wk, tx, bitAt, Holding, Can, self}
-use Rattle.access.specs.Helpers.{place, wordAt, Full, Derived, markIf, ownMarks, slotMarks, entryMarks}
-use Rattle.access.proofs.Saturation.{full-kept}
+use Rattle.relation.specs.Relation.{Right, rd, wr, wk, tx, bitAt, Holding, Can, self}
+use Rattle.relation.specs.Helpers.{place, wordAt, Full, Derived}
+use Rattle.access.specs.Helpers.{markIf, ownMarks, slotMarks, entryMarks}
+use Rattle.relation.proofs.Saturation.{full-kept}
 use Rattle.access.proofs.Marks.{has-low, Mark, Marked, marked-none, marked-more, mark-same}
 
 -- the code's loops ------------------------------------------------------------------

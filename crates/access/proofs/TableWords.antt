@@ -18,12 +18,13 @@ use Rattle.table.specs.Lists.{tabulate}
 use Rattle.table.specs.Cells.{slotOf, slotAt, bornAt}
 use Rattle.table.specs.Soundness.{sound}
 use Rattle.access.specs.declared.AccessReply.the-variants.{Done, TableUnsound}
-use Rattle.access.specs.Relation.{Right, bitAt, holds, takesPart, holdsIn, tableHolding}
-use Rattle.access.specs.Closure.{rowOf}
-use Rattle.access.specs.Answers.{bornOutside, rightAt, accessOf}
-use Rattle.access.specs.Helpers.{wordAt, ownMarks, slotMarks, Saturated}
-use Rattle.access.proofs.Exact.{table-low}
-use Rattle.access.proofs.Saturation.{Base, base-kept, exact-words}
+use Rattle.relation.specs.Relation.{Right, bitAt, holds, takesPart, holdsIn, tableHolding, rightAt}
+use Rattle.relation.specs.Closure.{rowOf}
+use Rattle.access.specs.Answers.{bornOutside, accessOf}
+use Rattle.relation.specs.Helpers.{wordAt, Saturated}
+use Rattle.access.specs.Helpers.{ownMarks, slotMarks}
+use Rattle.relation.proofs.Exact.{table-low}
+use Rattle.relation.proofs.Saturation.{Base, base-kept, exact-words}
 use Rattle.access.proofs.Marks.{has-low}
 use Rattle.access.proofs.StartWords.{Grounded, Begun, begun}
 

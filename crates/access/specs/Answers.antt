@@ -2,7 +2,7 @@
 -- number 1 and no rights.
 use mathlib.Core.Bool.{true, false, not, _&&_}
 use mathlib.Core.List.{List}
-use Prim.Native.Nat.{ℕ, zero, suc, _/_, _%_}
+use Prim.Native.Nat.{ℕ, _/_, _%_}
 use lib.ListN.{getD, replicate}
 use Rattle.mask.specs.Sets.{has, bits}
 use Rattle.table.specs.declared.Record.{Record}
@@ -13,8 +13,8 @@ use Rattle.table.specs.Lists.{tabulate}
 use Rattle.access.specs.declared.AccessReply.{AccessReply}
 use Rattle.access.specs.declared.AccessReply.the-variants.{Done, TableUnsound}
 use Rattle.access.specs.declared.Access.{Access}
-use Rattle.access.specs.Relation.{Right, rd, wr, wk, tx, tableHolding}
-use Rattle.access.specs.Closure.{rowOf}
+use Rattle.relation.specs.Relation.{rightAt, tableHolding}
+use Rattle.relation.specs.Closure.{rowOf}
 
 abbrev pub accessNumber : AccessReply → ℕ
 accessNumber Done = 0
@@ -23,13 +23,6 @@ accessNumber TableUnsound = 1
 -- the born numbers outside a set
 unfoldable pub bornOutside : List Record → ℕ → ℕ
 bornOutside records set = bits 64 (λ n. isBorn (getD records n unbornRecord) && not (has n set))
-
--- the right whose rows stand at 64 times its place
-abbrev pub rightAt : ℕ → Right
-rightAt zero = rd
-rightAt (suc zero) = wr
-rightAt (suc (suc zero)) = wk
-rightAt (suc (suc (suc n))) = tx
 
 unfoldable pub accessOf : Table → Access
 accessOf t = elim (sound t) [

@@ -1,5 +1,3 @@
-pub mod Relation
-pub mod Closure
-pub mod Exactness
+-- Potential access of a table.
 pub mod Answers
 pub mod Helpers

@@ -2,7 +2,6 @@
 // the rules themselves, until they add nothing.
 use table::Table;
 
-pub mod rules; // rules.rt: the rules, run until nothing is added
 pub mod start; // start.rt: the words that the rules start from
 
 ghost use mathlib.Core.Path.{_≡_};
@@ -34,7 +33,7 @@ pub fn potential_access(t: Table) -> Access
     let records = t.records;
     let slots = t.slots;
     let born = start::born_outside(records, 0);
-    let words = rules::saturate(start::held_words(slots, born, born));
+    let words = relation::saturate(start::held_words(slots, born, born));
     Access {
         reply: AccessReply::Done,
         rows: words,

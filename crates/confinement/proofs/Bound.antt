@@ -15,9 +15,9 @@ use Rattle.table.specs.declared.Capability.{Capability}
 use Rattle.table.specs.declared.Record.{Record}
 use Rattle.table.specs.declared.Table.{Table}
 use Rattle.table.specs.Cells.{isBorn}
-use Rattle.access.specs.Relation.{Right, rd, wr, wk, tx, Can, Influenced, takesPart, holdsIn}
-use Rattle.access.specs.Closure.{influencedSet, rowOf, link, bothTakePart, holdsStrong, reached}
-use Rattle.access.proofs.Exact.{set-influenced, influenced-set, row-can, can-row}
+use Rattle.relation.specs.Relation.{Right, rd, wr, wk, tx, Can, Influenced, takesPart, holdsIn}
+use Rattle.relation.specs.Closure.{influencedSet, rowOf, link, bothTakePart, holdsStrong, reached}
+use Rattle.relation.proofs.Exact.{set-influenced, influenced-set, row-can, can-row}
 use Rattle.confinement.specs.StandIn.{standIn, testNode, testHeld, testHolding, boundOf}
 use Rattle.confinement.specs.Agreement.{AgreeOutside}
 use Rattle.confinement.specs.Exactness.{BoundExact, BoundBlind}

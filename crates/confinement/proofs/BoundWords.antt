@@ -17,13 +17,14 @@ use Rattle.table.specs.declared.Capability.{Capability}
 use Rattle.table.specs.declared.Table.{Table}
 use Rattle.table.specs.Cells.{slotOf, emptySlot}
 use Rattle.table.proofs.Lists.{length-tabulate, getD-tabulate}
-use Rattle.access.specs.Relation.{Right, wk, bitAt, Holding, Can, holds, Influences, by-wr, by-tx, by-rd, by-wk, Influenced, first, more, holdsIn}
-use Rattle.access.specs.Closure.{linkBack}
+use Rattle.relation.specs.Relation.{Right, wk, bitAt, Holding, Can, holds, Influences, by-wr, by-tx, by-rd, by-wk, Influenced, first, more, holdsIn}
+use Rattle.relation.specs.Closure.{linkBack}
 use Rattle.access.specs.Answers.{bornOutside}
-use Rattle.access.specs.Helpers.{wordAt, Derived, Saturated, ownMarks, slotMarks, entryMarks}
-use Rattle.access.proofs.Reach.{turn}
-use Rattle.access.proofs.Exact.{means, links-can, influenced-links}
-use Rattle.access.proofs.Saturation.{Base, base-kept, complete}
+use Rattle.relation.specs.Helpers.{wordAt, Derived, Saturated}
+use Rattle.access.specs.Helpers.{ownMarks, slotMarks, entryMarks}
+use Rattle.relation.proofs.Reach.{turn}
+use Rattle.relation.proofs.Exact.{means, links-can, influenced-links}
+use Rattle.relation.proofs.Saturation.{Base, base-kept, complete}
 use Rattle.access.proofs.StartWords.{Grounded, Begun, begun, Entered, entered}
 use Rattle.access.proofs.TableWords.{outside-lt, outside-facts, outside-intro, slot-held, held-slot}
 use Rattle.confinement.specs.declared.EntryList.{EntryList}

@@ -16,9 +16,9 @@ use Rattle.table.specs.declared.Capability.{Capability}
 use Rattle.table.specs.declared.Table.{Table}
 use Rattle.table.specs.Cells.{emptySlot, recordAt, slotAt, isAlive, isEmpty}
 use Rattle.table.proofs.Lists.{length-tabulate, getD-tabulate}
-use Rattle.access.specs.Relation.{Right, rd, wr, wk, tx, bitAt, takesPart}
+use Rattle.relation.specs.Relation.{Right, rd, wr, wk, tx, bitAt, takesPart}
 use Rattle.access.specs.Answers.{bornOutside}
-use Rattle.access.proofs.Saturation.{bit-high}
+use Rattle.relation.proofs.Saturation.{bit-high}
 use Rattle.access.proofs.TableWords.{outside-facts, outside-intro}
 use Rattle.confinement.specs.declared.EntryList.{EntryList}
 use Rattle.confinement.specs.StandIn.{entriesOf, entryAt, listed}

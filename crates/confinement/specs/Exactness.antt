@@ -7,7 +7,7 @@ use Prim.Native.Nat.{ℕ, _<_}
 use Rattle.mask.specs.Sets.{has}
 use Rattle.table.specs.declared.Capability.{Capability}
 use Rattle.table.specs.declared.Table.{Table}
-use Rattle.access.specs.Relation.{Influenced}
+use Rattle.relation.specs.Relation.{Influenced}
 use Rattle.confinement.specs.StandIn.{standIn, testHolding, boundOf}
 use Rattle.confinement.specs.Agreement.{AgreeOutside}
 

@@ -7,8 +7,8 @@ use lib.ListN.{length}
 use Rattle.mask.specs.Sets.{has, bits, anyBelow, unionOf}
 use Rattle.table.specs.declared.Capability.{Capability}
 use Rattle.table.specs.Cells.{isEmpty}
-use Rattle.access.specs.Relation.{wk}
-use Rattle.access.specs.Helpers.{wordAt}
+use Rattle.relation.specs.Relation.{wk}
+use Rattle.relation.specs.Helpers.{wordAt}
 use Rattle.confinement.specs.StandIn.{entryAt}
 use Rattle.confinement.specs.Refusals.{allListed}
 

@@ -10,8 +10,8 @@ use Rattle.table.specs.declared.Capability.{Capability}
 use Rattle.table.specs.declared.Table.{Table}
 use Rattle.table.specs.Lists.{tabulate}
 use Rattle.table.specs.Cells.{emptySlot}
-use Rattle.access.specs.Relation.{Right, bitAt, Holding, takesPart, holdsIn}
-use Rattle.access.specs.Closure.{influencedSet}
+use Rattle.relation.specs.Relation.{Right, bitAt, Holding, takesPart, holdsIn}
+use Rattle.relation.specs.Closure.{influencedSet}
 use Rattle.confinement.specs.declared.EntryList.{EntryList}
 
 -- as many entries as the count says: a count above 8 is a list too long

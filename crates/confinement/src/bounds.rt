@@ -48,7 +48,7 @@ pub fn bound(t: Table, members: u64, l: EntryList, outside: u64) -> u64
     let x = lowest(members);
     let nodes = mask::with(outside, x as u8);
     let start = access::start::held_words(slots, nodes, outside);
-    let words = access::rules::saturate(access::start::with_entries(
+    let words = relation::saturate(access::start::with_entries(
         start,
         entries,
         count,

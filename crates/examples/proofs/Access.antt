@@ -6,10 +6,10 @@ use Prim.Native.Nat.{ℕ, _<_}
 use native.Mathlib.Omega.{arith}
 use Rattle.mask.specs.Sets.{has, bits, anyBelow}
 use Rattle.mask.proofs.Tests.{clash}
-use Rattle.access.specs.Relation.{Right, rd, wr, wk, tx, Can, takesPart, holdsIn, tableHolding}
-use Rattle.access.specs.Closure.{grow, spread, only, reached, bothTakePart, holdsStrong, bond, link, rowOf}
-use Rattle.access.specs.Exactness.{AccessExact}
-use Rattle.access.proofs.Exact.{access-exact, table-low}
+use Rattle.relation.specs.Relation.{Right, rd, wr, wk, tx, Can, takesPart, holdsIn, tableHolding}
+use Rattle.relation.specs.Closure.{grow, spread, only, reached, bothTakePart, holdsStrong, bond, link, rowOf}
+use Rattle.relation.specs.Exactness.{AccessExact}
+use Rattle.relation.proofs.Exact.{access-exact, table-low}
 use Rattle.examples.specs.TableK.{K}
 
 row : (b : Right) → ℕ → ℕ → Bool

@@ -4,8 +4,8 @@ use mathlib.Core.List.{List, [], _∷_}
 use Rattle.mask.specs.Sets.{bits, allBelow, anyBelow, lessOf}
 use Rattle.table.specs.declared.Capability.{Capability}
 use Rattle.table.specs.Soundness.{stockSound, soundAt, sound}
-use Rattle.access.specs.Relation.{takesPart, holdsIn}
-use Rattle.access.specs.Closure.{grow, spread, only, reached, bothTakePart, holdsStrong, link, influencedSet}
+use Rattle.relation.specs.Relation.{takesPart, holdsIn}
+use Rattle.relation.specs.Closure.{grow, spread, only, reached, bothTakePart, holdsStrong, link, influencedSet}
 use Rattle.confinement.specs.StandIn.{listed, lowestFrom, standIn, testNode, testHeld, boundOf}
 use Rattle.confinement.specs.Refusals.{verdictNumber, badMembers, badEntry, badList, allListed, badHeld, memberHeld, verdictOf}
 use Rattle.confinement.specs.Tests.{testOf}

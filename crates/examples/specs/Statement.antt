@@ -11,7 +11,7 @@ use Rattle.refusals.specs.Replies.{number}
 use Rattle.refusals.specs.Refusals.{refusal}
 use Rattle.effects.specs.Effects.{weaken}
 use Rattle.steps.specs.Steps.{after, stepOf}
-use Rattle.access.specs.Relation.{Right, rd, wr, wk, tx, Can, tableHolding}
+use Rattle.relation.specs.Relation.{Right, rd, wr, wk, tx, Can, tableHolding}
 use Rattle.confinement.specs.Refusals.{verdictNumber}
 use Rattle.confinement.specs.Tests.{testOf}
 use Rattle.octets.specs.BigEndian.{bytesOf}

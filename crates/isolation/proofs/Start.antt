@@ -19,8 +19,8 @@ use Rattle.table.specs.declared.Table.{Table}
 use Rattle.table.specs.Cells.{recordAt, slotAt, statusAt, bornAt, isEmpty}
 use Rattle.table.proofs.Cells.{record-high}
 use Rattle.table.proofs.SoundFacts.{Sound, born-pos, pos-born}
-use Rattle.access.specs.Relation.{Right, rd, wr, wk, tx, bitAt, Holding, Can, holds, self, reads, writes, sends, Influences, by-wr, by-tx, by-rd, by-wk, first, more, takesPart, holdsIn}
-use Rattle.access.proofs.Exact.{isStrong}
+use Rattle.relation.specs.Relation.{Right, rd, wr, wk, tx, bitAt, Holding, Can, holds, self, reads, writes, sends, Influences, by-wr, by-tx, by-rd, by-wk, first, more, takesPart, holdsIn}
+use Rattle.relation.proofs.Exact.{isStrong}
 use Rattle.confinement.specs.StandIn.{listed, standIn, testNode, testHeld, testHolding, boundOf}
 use Rattle.confinement.proofs.Bound.{bound-only, bound-all}
 use Rattle.confinement.proofs.TestFacts.{Facts}

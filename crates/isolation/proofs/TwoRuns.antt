@@ -19,7 +19,7 @@ use Rattle.table.specs.declared.Table.{Table}
 use Rattle.table.specs.Cells.{IsTable, slotAt, bornAt, isBorn}
 use Rattle.table.proofs.Cells.{table-sized}
 use Rattle.table.proofs.SoundFacts.{sound-facts}
-use Rattle.access.specs.Relation.{takesPart}
+use Rattle.relation.specs.Relation.{takesPart}
 use Rattle.confinement.specs.StandIn.{boundOf}
 use Rattle.confinement.specs.Refusals.{verdictOf, verdictNumber}
 use Rattle.confinement.specs.Agreement.{AgreeOutside}

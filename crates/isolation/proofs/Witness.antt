@@ -19,8 +19,8 @@ use Rattle.table.specs.declared.Table.{Table}
 use Rattle.table.specs.Cells.{IsTable, emptySlot, unbornRecord, recordAt, putRecord, putSlot}
 use Rattle.table.specs.Soundness.{stockSound, soundAt, sound}
 use Rattle.table.proofs.Cells.{record-other, slot-other}
-use Rattle.access.specs.Relation.{takesPart, holdsIn}
-use Rattle.access.specs.Closure.{grow, spread, only, reached, bothTakePart, holdsStrong, link, influencedSet}
+use Rattle.relation.specs.Relation.{takesPart, holdsIn}
+use Rattle.relation.specs.Closure.{grow, spread, only, reached, bothTakePart, holdsStrong, link, influencedSet}
 use Rattle.confinement.specs.StandIn.{listed, lowestFrom, standIn, testNode, testHeld, boundOf}
 use Rattle.confinement.specs.Refusals.{verdictNumber, badMembers, badEntry, badList, allListed, badHeld, memberHeld, verdictOf}
 use Rattle.confinement.specs.Agreement.{AgreeOutside}

@@ -8,7 +8,7 @@ use lib.Dec.{eqb}
 use Rattle.mask.specs.Sets.{has}
 use Rattle.table.specs.declared.Capability.{Capability}
 use Rattle.table.specs.declared.Table.{Table}
-use Rattle.access.specs.Relation.{takesPart}
+use Rattle.relation.specs.Relation.{takesPart}
 use Rattle.confinement.specs.StandIn.{boundOf}
 use Rattle.refusals.specs.declared.Reply.{Reply}
 use Rattle.requests.specs.Asks.{Ask, read, write, fetch, store, revoke, send, allocate, destroy, unknown, actorOf}

@@ -8,8 +8,8 @@ use Rattle.mask.specs.Sets.{has, bits}
 use Rattle.mask.proofs.Bits.{has-bits, bits-same, as-bits}
 use Rattle.table.specs.Lists.{tabulate}
 use Rattle.table.proofs.Lists.{length-tabulate, getD-tabulate, as-tabulate}
-use Rattle.access.specs.Relation.{Holding}
-use Rattle.access.specs.Closure.{link}
+use Rattle.relation.specs.Relation.{Holding}
+use Rattle.relation.specs.Closure.{link}
 use Rattle.links.specs.Links.{linkWords, wordEdge}
 
 -- the words with these edges

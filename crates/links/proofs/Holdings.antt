@@ -13,8 +13,8 @@ use Rattle.mask.proofs.Bits.{has-zero}
 use Rattle.table.specs.Cells.{slotOf}
 use Rattle.table.specs.declared.Capability.{Capability}
 use Rattle.table.specs.declared.Table.{Table}
-use Rattle.access.specs.Relation.{Right, Holding, takesPart, holdsIn, tableHolding}
-use Rattle.access.specs.Closure.{bothTakePart, holdsStrong, link}
+use Rattle.relation.specs.Relation.{Right, Holding, takesPart, holdsIn, tableHolding}
+use Rattle.relation.specs.Closure.{bothTakePart, holdsStrong, link}
 use Rattle.access.specs.Answers.{bornOutside}
 use Rattle.access.proofs.TableWords.{outside-facts, outside-intro, slot-held, held-slot}
 use Rattle.links.specs.Links.{linkWords, slotHeld, slotHolding, entryHeld, withHolder, capabilityLink, joined, entryLink}

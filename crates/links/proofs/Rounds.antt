@@ -7,8 +7,8 @@ use lib.Dec.{eqb}
 use Rattle.mask.specs.Sets.{has}
 use Rattle.mask.proofs.Below.{any-ext}
 use Rattle.mask.proofs.Bits.{bits-same}
-use Rattle.access.specs.Relation.{Holding}
-use Rattle.access.specs.Closure.{link, grow, spread, only, mostRounds, reached}
+use Rattle.relation.specs.Relation.{Holding}
+use Rattle.relation.specs.Closure.{link, grow, spread, only, mostRounds, reached}
 use Rattle.links.specs.Links.{linkWords, wordEdge}
 use Rattle.links.proofs.Edges.{links-are-edges}
 

@@ -10,8 +10,8 @@ use Rattle.mask.proofs.Tests.{byCases, bool-ext, and-true, and-intro, or-cases,
 use Rattle.mask.proofs.Below.{any-intro, any-elim, any-last, any-ext}
 use Rattle.table.specs.declared.Capability.{Capability}
 use Rattle.table.specs.Cells.{hasRd, hasWr, hasWk, hasTx}
-use Rattle.access.specs.Relation.{Right, rd, wr, wk, tx, bitAt, Holding}
-use Rattle.access.specs.Closure.{bothTakePart, holdsStrong, link}
+use Rattle.relation.specs.Relation.{Right, rd, wr, wk, tx, bitAt, Holding}
+use Rattle.relation.specs.Closure.{bothTakePart, holdsStrong, link}
 use Rattle.links.specs.Links.{hasStrong, capabilityLink}
 
 abbrev pub Held : Type 0

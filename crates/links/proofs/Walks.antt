@@ -11,7 +11,7 @@ use Rattle.mask.specs.Sets.{has, bits, anyBelow, including, unionOf}
 use Rattle.mask.proofs.Tests.{or-false, or-assoc}
 use Rattle.mask.proofs.Below.{any-last}
 use Rattle.mask.proofs.Bits.{has-bits, bits-lt, bits-same, as-bits, has-zero}
-use Rattle.access.specs.Closure.{grow, spread, only, mostRounds, reached}
+use Rattle.relation.specs.Closure.{grow, spread, only, mostRounds, reached}
 
 -- one round, by a loop over the numbers that are there --------------------------------
 module _ (edge : ℕ → ℕ → Bool) (s : ℕ) where

@@ -9,8 +9,8 @@ use Rattle.mask.specs.Sets.{has, bits, anyBelow}
 use Rattle.table.specs.declared.Capability.{Capability}
 use Rattle.table.specs.Lists.{tabulate}
 use Rattle.table.specs.Cells.{slotOf, hasRd, hasWr, hasWk, hasTx}
-use Rattle.access.specs.Relation.{Right, bitAt, Holding}
-use Rattle.access.specs.Closure.{link}
+use Rattle.relation.specs.Relation.{Right, bitAt, Holding}
+use Rattle.relation.specs.Closure.{link}
 
 -- word x: the numbers one link from x
 unfoldable pub linkWords : Holding → List ℕ

@@ -4,8 +4,8 @@ use table::Table;
 ghost use mathlib.Core.Path.{_≡_};
 ghost use mathlib.Core.Bool.{true};
 ghost use Prim.Native.Nat.{_≤_, _<_};
-ghost use Rattle.access.specs.Relation.{tableHolding};
-ghost use Rattle.access.specs.Closure.{grow, only, reached};
+ghost use Rattle.relation.specs.Relation.{tableHolding};
+ghost use Rattle.relation.specs.Closure.{grow, only, reached};
 ghost use Rattle.links.specs.Links.{linkWords, wordEdge, slotHolding, hasStrong, joined, entryLink};
 ghost use Rattle.links.specs.Helpers.{edgeIf, linkIf};
 

@@ -7,7 +7,7 @@ use lib.Bits.{bitOr}
 use lib.ListN.{getD, set}
 use Rattle.mask.proofs.Words.{one-bit}
 use Rattle.access.specs.Helpers.{markTo}
-use Rattle.access.proofs.Feeds.{bit-set, bit-clear}
+use Rattle.relation.proofs.Feeds.{bit-set, bit-clear}
 use Rattle.access.proofs.Marks.{mark-none, mark-on, mark-off}
 use borrow.Author.Needs.{needs}
 use Rattle.access.proofs.start.mark.Statement.{statement}

@@ -1,6 +1,6 @@
 -- `bound` is the definition: the saturated words are read off at the stand-in. Assumes nothing.
 use native.Mathlib.Omega.{arith}
-use Rattle.access.proofs.Saturation.{full-kept}
+use Rattle.relation.proofs.Saturation.{full-kept}
 use Rattle.access.proofs.StartWords.{begun, entered}
 use Rattle.confinement.proofs.BoundWords.{bound-answer}
 use borrow.Author.Needs.{needs}

@@ -6,8 +6,8 @@ use Prim.Native.Nat.{ℕ, _-_, _≤_}
 use native.Mathlib.Omega.{arith}
 use Rattle.mask.specs.Sets.{has, including}
 use Rattle.mask.proofs.UpTo.{upTo, up-none, up-on, up-off, up-all}
-use Rattle.access.specs.Relation.{wk}
-use Rattle.access.specs.Helpers.{wordAt}
+use Rattle.relation.specs.Relation.{wk}
+use Rattle.relation.specs.Helpers.{wordAt}
 use Rattle.confinement.specs.Helpers.{readOff}
 use borrow.Author.Needs.{needs}
 use Rattle.confinement.proofs.bounds.read_off.Statement.{statement}

@@ -1,0 +1,5 @@
+-- The closure is the least relation, and so are the words that the rules leave as they are.
+pub mod Reach
+pub mod Exact
+pub mod Feeds
+pub mod Saturation
