@@ -20,8 +20,8 @@ use Rattle.relation.specs.Relation.{Right, rd, wr, wk, tx, bitAt, takesPart}
 use Rattle.access.specs.Answers.{bornOutside}
 use Rattle.relation.proofs.Saturation.{bit-high}
 use Rattle.access.proofs.TableWords.{outside-facts, outside-intro}
-use Rattle.confinement.specs.declared.EntryList.{EntryList}
-use Rattle.confinement.specs.StandIn.{entriesOf, entryAt, listed}
+use Rattle.bounds.specs.declared.EntryList.{EntryList}
+use Rattle.bounds.specs.StandIn.{entriesOf, entryAt, listed}
 use Rattle.confinement.specs.Refusals.{badMembers, badEntry, badList, rightListed, allListed, badHeld, memberHeld}
 use Rattle.confinement.specs.Helpers.{entryRefused, listRefused, listedTo, listedRights, slotUnlisted, slotNamesMember}
 

@@ -18,7 +18,7 @@ use Rattle.table.specs.Soundness.{sound}
 use Rattle.relation.specs.Relation.{Right, rd, wr, wk, tx, bitAt, takesPart}
 use Rattle.confinement.specs.declared.Verdict.{Verdict}
 use Rattle.confinement.specs.declared.Verdict.the-variants.{Accepted, TableUnsound, MembersInvalid, ListInvalid, RightUnlisted, MemberHeld}
-use Rattle.confinement.specs.StandIn.{entryAt, listed, lowestFrom, standIn}
+use Rattle.bounds.specs.StandIn.{entryAt, listed, lowestFrom, standIn}
 use Rattle.confinement.specs.Refusals.{verdictNumber, refuse, badMembers, badEntry, badList, rightListed, allListed, badHeld, memberHeld, verdictOf}
 
 pub record Facts (t : Table) (members : ℕ) (list : List Capability) : Type 0 where

@@ -9,7 +9,7 @@ use Rattle.table.specs.Soundness.{sound}
 use Rattle.access.specs.Answers.{bornOutside}
 use Rattle.confinement.specs.declared.Verdict.{Verdict}
 use Rattle.confinement.specs.declared.Verdict.the-variants.{Accepted, TableUnsound, MembersInvalid, ListInvalid, RightUnlisted, MemberHeld}
-use Rattle.confinement.specs.StandIn.{standIn, boundOf}
+use Rattle.bounds.specs.StandIn.{standIn, boundOf}
 use Rattle.confinement.specs.Refusals.{badMembers, badList, badHeld, memberHeld, verdictOf}
 use Rattle.confinement.specs.Tests.{isAccepted, refusedTest, testOf}
 use Rattle.confinement.specs.Helpers.{listRefused}

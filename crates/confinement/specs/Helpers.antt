@@ -4,12 +4,10 @@ use mathlib.Core.List.{List}
 use Prim.Native.Nat.{ℕ, zero, suc}
 use lib.Dec.{ltb, eqb}
 use lib.ListN.{length}
-use Rattle.mask.specs.Sets.{has, bits, anyBelow, unionOf}
+use Rattle.mask.specs.Sets.{has, anyBelow, unionOf}
 use Rattle.table.specs.declared.Capability.{Capability}
 use Rattle.table.specs.Cells.{isEmpty}
-use Rattle.relation.specs.Relation.{wk}
-use Rattle.relation.specs.Helpers.{wordAt}
-use Rattle.confinement.specs.StandIn.{entryAt}
+use Rattle.bounds.specs.StandIn.{entryAt}
 use Rattle.confinement.specs.Refusals.{allListed}
 
 -- row 11 by the set of born non-members
@@ -36,7 +34,3 @@ slotUnlisted members list n c = has n members && (not (has (c .target) members) 
 -- row 13 at a slot of n
 abbrev pub slotNamesMember : ℕ → ℕ → Capability → Bool
 slotNamesMember members n c = not (has n members) && (not (isEmpty c) && has (c .target) members)
-
--- the non-members that have wk over x
-unfoldable pub readOff : List ℕ → ℕ → ℕ → ℕ
-readOff words members x = bits 64 (λ y. has x (wordAt words wk y) && not (has y members))

@@ -12,7 +12,7 @@ use Rattle.table.specs.Soundness.{sound}
 use Rattle.relation.specs.Relation.{Right, rd, wr, wk, tx, bitAt, takesPart}
 use Rattle.confinement.specs.declared.Verdict.{Verdict}
 use Rattle.confinement.specs.declared.Verdict.the-variants.{Accepted, TableUnsound, MembersInvalid, ListInvalid, RightUnlisted, MemberHeld}
-use Rattle.confinement.specs.StandIn.{entryAt, listed}
+use Rattle.bounds.specs.StandIn.{entryAt, listed}
 
 abbrev pub verdictNumber : Verdict → ℕ
 verdictNumber Accepted = 0

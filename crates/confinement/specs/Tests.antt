@@ -8,7 +8,7 @@ use Rattle.table.specs.declared.Table.{Table}
 use Rattle.confinement.specs.declared.Verdict.{Verdict}
 use Rattle.confinement.specs.declared.Verdict.the-variants.{Accepted}
 use Rattle.confinement.specs.declared.Tested.{Tested}
-use Rattle.confinement.specs.StandIn.{boundOf}
+use Rattle.bounds.specs.StandIn.{boundOf}
 use Rattle.confinement.specs.Refusals.{verdictOf, verdictNumber}
 
 abbrev pub isAccepted : Verdict → Bool

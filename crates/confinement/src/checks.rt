@@ -1,12 +1,12 @@
 // What turns the confinement test down, document 01, rows 10 to 13.
-use crate::EntryList;
+use bounds::EntryList;
 use table::Capability;
 use table::Table;
 ghost use mathlib.Core.Path.{_≡_};
 ghost use mathlib.Core.Bool.{not, _||_};
 ghost use Prim.Native.Nat.{_≤_, _<_};
 ghost use Rattle.mask.specs.Sets.{has};
-ghost use Rattle.confinement.specs.StandIn.{entriesOf};
+ghost use Rattle.bounds.specs.StandIn.{entriesOf};
 ghost use Rattle.confinement.specs.Refusals.{badMembers, allListed, badHeld, memberHeld};
 ghost use Rattle.confinement.specs.Helpers.{entryRefused, listRefused, listedRights, slotUnlisted, slotNamesMember};
 

@@ -1,21 +1,12 @@
 // The confinement test, document 01: which objects a newly loaded subsystem can ever influence.
-use table::Capability;
+use bounds::EntryList;
 use table::Table;
 
 pub mod checks; // checks.rt: what turns the test down
-pub mod bounds; // bounds.rt: the bound, from the list and the non-members
 
 ghost use mathlib.Core.Path.{_≡_};
-ghost use Rattle.confinement.specs.StandIn.{entriesOf};
+ghost use Rattle.bounds.specs.StandIn.{entriesOf};
 ghost use Rattle.confinement.specs.Tests.{refusedTest, testOf};
-
-// A list of `count` entries (target, rights). A count above 8 is a list too long; entries at or after the count are no
-// part of it.
-#[repr(C)]
-pub struct EntryList {
-    pub count: u8,
-    pub entries: [Capability; 8],
-}
 
 // Accepted, or why the test was refused.
 pub enum Verdict {

@@ -19,8 +19,8 @@ use Rattle.table.specs.Soundness.{sound}
 use Rattle.table.proofs.Lists.{length-tabulate, padded-all}
 use Rattle.octets.proofs.Lists.{tabulate-is}
 use Rattle.access.specs.Answers.{bornOutside}
-use Rattle.confinement.specs.declared.EntryList.{EntryList}
-use Rattle.confinement.specs.StandIn.{entriesOf}
+use Rattle.bounds.specs.declared.EntryList.{EntryList}
+use Rattle.bounds.specs.StandIn.{entriesOf}
 use Rattle.confinement.specs.Refusals.{badMembers}
 use Rattle.confinement.specs.Tests.{testOf}
 use Rattle.confinement.proofs.Scans.{list-long}

@@ -8,7 +8,7 @@ use Rattle.table.specs.declared.Capability.{Capability}
 use Rattle.table.specs.Cells.{emptySlot}
 use Rattle.table.specs.Lists.{tabulate, padded}
 use Rattle.octets.specs.BigEndian.{byteAt}
-use Rattle.confinement.specs.declared.EntryList.{EntryList}
+use Rattle.bounds.specs.declared.EntryList.{EntryList}
 
 -- the entry at a place
 unfoldable pub entryIn : List ℕ → ℕ → Capability

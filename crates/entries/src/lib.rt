@@ -1,5 +1,5 @@
 // The entries of a confinement test from their bytes, two for each: target, rights.
-use confinement::EntryList;
+use bounds::EntryList;
 use table::Capability;
 ghost use mathlib.Core.Path.{_≡_};
 ghost use Prim.Native.Nat.{_*_, _≤_};

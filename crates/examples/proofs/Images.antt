@@ -7,7 +7,7 @@ use Rattle.table.specs.Lists.{tabulate}
 use Rattle.table.specs.Soundness.{stockSound, soundAt, sound}
 use Rattle.relation.specs.Relation.{takesPart, holdsIn}
 use Rattle.relation.specs.Closure.{grow, spread, only, reached, bothTakePart, holdsStrong, link, influencedSet}
-use Rattle.confinement.specs.StandIn.{listed, lowestFrom, standIn, testNode, testHeld, boundOf}
+use Rattle.bounds.specs.StandIn.{listed, lowestFrom, standIn, testNode, testHeld, boundOf}
 use Rattle.confinement.specs.Refusals.{badMembers, badEntry, badList, allListed, badHeld, memberHeld, verdictOf}
 use Rattle.confinement.specs.Tests.{testOf}
 use Rattle.octets.specs.BigEndian.{bytesOf, numberFrom}

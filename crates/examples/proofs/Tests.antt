@@ -6,7 +6,7 @@ use Rattle.table.specs.declared.Capability.{Capability}
 use Rattle.table.specs.Soundness.{stockSound, soundAt, sound}
 use Rattle.relation.specs.Relation.{takesPart, holdsIn}
 use Rattle.relation.specs.Closure.{grow, spread, only, reached, bothTakePart, holdsStrong, link, influencedSet}
-use Rattle.confinement.specs.StandIn.{listed, lowestFrom, standIn, testNode, testHeld, boundOf}
+use Rattle.bounds.specs.StandIn.{listed, lowestFrom, standIn, testNode, testHeld, boundOf}
 use Rattle.confinement.specs.Refusals.{verdictNumber, badMembers, badEntry, badList, allListed, badHeld, memberHeld, verdictOf}
 use Rattle.confinement.specs.Tests.{testOf}
 use Rattle.examples.specs.TableK.{K, over, wrRight, wkRight}

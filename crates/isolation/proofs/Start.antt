@@ -21,8 +21,8 @@ use Rattle.table.proofs.Cells.{record-high}
 use Rattle.table.proofs.SoundFacts.{Sound, born-pos, pos-born}
 use Rattle.relation.specs.Relation.{Right, rd, wr, wk, tx, bitAt, Holding, Can, holds, self, reads, writes, sends, Influences, by-wr, by-tx, by-rd, by-wk, first, more, takesPart, holdsIn}
 use Rattle.relation.proofs.Exact.{isStrong}
-use Rattle.confinement.specs.StandIn.{listed, standIn, testNode, testHeld, testHolding, boundOf}
-use Rattle.confinement.proofs.Bound.{bound-only, bound-all}
+use Rattle.bounds.specs.StandIn.{listed, standIn, testNode, testHeld, testHolding, boundOf}
+use Rattle.bounds.proofs.Exact.{bound-only, bound-all}
 use Rattle.confinement.proofs.TestFacts.{Facts}
 use Rattle.isolation.specs.Clean.{cleanAtStart}
 use Rattle.isolation.proofs.Invariant.{wkAlone, Isolated}

@@ -20,10 +20,10 @@ use Rattle.table.specs.Cells.{IsTable, slotAt, bornAt, isBorn}
 use Rattle.table.proofs.Cells.{table-sized}
 use Rattle.table.proofs.SoundFacts.{sound-facts}
 use Rattle.relation.specs.Relation.{takesPart}
-use Rattle.confinement.specs.StandIn.{boundOf}
+use Rattle.bounds.specs.StandIn.{boundOf}
 use Rattle.confinement.specs.Refusals.{verdictOf, verdictNumber}
-use Rattle.confinement.specs.Agreement.{AgreeOutside}
-use Rattle.confinement.proofs.Bound.{bound-same}
+use Rattle.bounds.specs.Agreement.{AgreeOutside}
+use Rattle.bounds.proofs.Exact.{bound-same}
 use Rattle.confinement.proofs.TestFacts.{accepted-facts}
 use Rattle.requests.specs.Asks.{Ask}
 use Rattle.steps.specs.Steps.{runTable}

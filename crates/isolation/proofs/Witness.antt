@@ -21,9 +21,9 @@ use Rattle.table.specs.Soundness.{stockSound, soundAt, sound}
 use Rattle.table.proofs.Cells.{record-other, slot-other}
 use Rattle.relation.specs.Relation.{takesPart, holdsIn}
 use Rattle.relation.specs.Closure.{grow, spread, only, reached, bothTakePart, holdsStrong, link, influencedSet}
-use Rattle.confinement.specs.StandIn.{listed, lowestFrom, standIn, testNode, testHeld, boundOf}
+use Rattle.bounds.specs.StandIn.{listed, lowestFrom, standIn, testNode, testHeld, boundOf}
 use Rattle.confinement.specs.Refusals.{verdictNumber, badMembers, badEntry, badList, allListed, badHeld, memberHeld, verdictOf}
-use Rattle.confinement.specs.Agreement.{AgreeOutside}
+use Rattle.bounds.specs.Agreement.{AgreeOutside}
 use Rattle.refusals.specs.declared.Reply.the-variants.{Done}
 use Rattle.requests.specs.Asks.{Ask, read, write, allocate}
 use Rattle.refusals.specs.Refusals as Rows

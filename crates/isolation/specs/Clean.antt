@@ -9,7 +9,7 @@ use Rattle.mask.specs.Sets.{has}
 use Rattle.table.specs.declared.Capability.{Capability}
 use Rattle.table.specs.declared.Table.{Table}
 use Rattle.relation.specs.Relation.{takesPart}
-use Rattle.confinement.specs.StandIn.{boundOf}
+use Rattle.bounds.specs.StandIn.{boundOf}
 use Rattle.refusals.specs.declared.Reply.{Reply}
 use Rattle.requests.specs.Asks.{Ask, read, write, fetch, store, revoke, send, allocate, destroy, unknown, actorOf}
 use Rattle.refusals.specs.Replies.{isDone}

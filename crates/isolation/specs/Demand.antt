@@ -8,9 +8,9 @@ use Prim.Native.Nat.{ℕ, _<_}
 use Rattle.table.specs.declared.Capability.{Capability}
 use Rattle.table.specs.declared.Table.{Table}
 use Rattle.table.specs.Cells.{IsTable, recordAt, slotAt}
-use Rattle.confinement.specs.StandIn.{boundOf}
+use Rattle.bounds.specs.StandIn.{boundOf}
 use Rattle.confinement.specs.Refusals.{verdictOf, verdictNumber}
-use Rattle.confinement.specs.Agreement.{AgreeOutside}
+use Rattle.bounds.specs.Agreement.{AgreeOutside}
 use Rattle.requests.specs.Asks.{Ask}
 use Rattle.steps.specs.Steps.{runTable}
 use Rattle.isolation.specs.Clean.{Clean, cleanAtStart, cleanAtEnd, cleanRequests, cleanReplies}

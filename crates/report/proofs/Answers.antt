@@ -16,11 +16,11 @@ use Rattle.image.specs.declared.ReadReply.the-variants as R
 use Rattle.octets.specs.BigEndian.{numberOf}
 use Rattle.image.specs.Layout.{one, imageLength}
 use Rattle.image.specs.Images.{readOf, readNumber}
-use Rattle.confinement.specs.declared.EntryList.{EntryList}
+use Rattle.bounds.specs.declared.EntryList.{EntryList}
 use Rattle.confinement.specs.declared.Tested.{Tested}
 use Rattle.confinement.specs.declared.Verdict.{Verdict}
 use Rattle.confinement.specs.declared.Verdict.the-variants.{Accepted, TableUnsound, MembersInvalid, ListInvalid, RightUnlisted, MemberHeld}
-use Rattle.confinement.specs.StandIn.{entriesOf}
+use Rattle.bounds.specs.StandIn.{entriesOf}
 use Rattle.confinement.specs.Refusals.{verdictNumber}
 use Rattle.confinement.specs.Tests.{testOf}
 use Rattle.entries.specs.Entries.{heldEntries}

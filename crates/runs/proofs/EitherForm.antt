@@ -16,7 +16,7 @@ use Rattle.refusals.specs.declared.Reply.{Reply}
 use Rattle.refusals.specs.Replies.{number}
 use Rattle.refusals.specs.Refusals.{refusal}
 use Rattle.steps.specs.Steps.{after, stepOf, runTable, runReplies}
-use Rattle.confinement.specs.StandIn.{boundOf}
+use Rattle.bounds.specs.StandIn.{boundOf}
 use Rattle.confinement.specs.Refusals.{verdictOf, verdictNumber}
 use Rattle.confinement.specs.Tests.{isAccepted, testOf}
 use Rattle.image.proofs.Typed.{read-is-table}

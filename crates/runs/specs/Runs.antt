@@ -13,7 +13,7 @@ use Rattle.requests.specs.Asks.{Ask, actorOf}
 use Rattle.refusals.specs.Replies.{number}
 use Rattle.refusals.specs.Refusals.{refusal}
 use Rattle.steps.specs.Steps.{after, stepOf}
-use Rattle.confinement.specs.Agreement.{AgreeOutside}
+use Rattle.bounds.specs.Agreement.{AgreeOutside}
 use Rattle.confinement.specs.Tests.{testOf}
 use Rattle.image.specs.Images.{readOf}
 use Rattle.wire.specs.Wires.{askFrom}

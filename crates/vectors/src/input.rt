@@ -1,5 +1,5 @@
 // Tables, requests and lists out of a case's bytes, big-endian. A byte past the end reads as 0, so that no caller owes a bound.
-use confinement::EntryList;
+use bounds::EntryList;
 use requests::Pair;
 use requests::PairList;
 use requests::Request;

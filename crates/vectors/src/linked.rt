@@ -3,7 +3,7 @@
 use crate::digest;
 use crate::input;
 use crate::output;
-use confinement::EntryList;
+use bounds::EntryList;
 use table::Capability;
 
 // The links of slots between numbers of `outside`, and of the list that x holds. A list that is too long, or no holder, adds none.
@@ -29,7 +29,7 @@ fn answer(number: u64, s: &[u8]) {
     output::number(number);
     output::digest(digest::of_words(&whole));
     let outside = access::start::born_outside(records, members);
-    let x = (confinement::bounds::lowest(members) % 256) as u8;
+    let x = (bounds::lowest(members) % 256) as u8;
     let words = held(slots, outside, input::entry_list(s, 1928), x);
     output::text(b" ");
     output::digest(digest::of_words(&words));

@@ -1,8 +1,8 @@
 -- `captable::captable_test` meets its contract: the list that is held is answered as the one of the bytes. Assumes nothing.
 use mathlib.Core.Path.{_∙_, ap}
 use Prim.Native.Nat.{ℕ}
-use Rattle.confinement.specs.declared.EntryList.{EntryList}
-use Rattle.confinement.specs.StandIn.{entriesOf}
+use Rattle.bounds.specs.declared.EntryList.{EntryList}
+use Rattle.bounds.specs.StandIn.{entriesOf}
 use Rattle.confinement.specs.Tests.{testOf}
 use Rattle.entries.proofs.Lists.{test-bytes}
 use Rattle.captable.specs.Crossing.{found}

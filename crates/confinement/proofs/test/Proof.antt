@@ -3,7 +3,7 @@ use mathlib.Core.Path.{sym, _∙_}
 use borrow.Author.Tests.{not-true, not-false}
 use Rattle.confinement.proofs.Scans.{list-short}
 use Rattle.confinement.proofs.Verdicts.{test-1, test-10, test-11, test-12, test-13, test-0, standing}
-use Rattle.confinement.specs.StandIn.{entriesOf}
+use Rattle.bounds.specs.StandIn.{entriesOf}
 use borrow.Author.Needs.{needs}
 use Rattle.confinement.proofs.test.Statement.{statement}
 use Rattle.confinement.proofs.test.Tie as tie

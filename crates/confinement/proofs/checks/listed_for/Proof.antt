@@ -3,7 +3,7 @@ use mathlib.Core.Path.{_≡_, _∙_}
 use mathlib.Core.Logic.{⊎-elim}
 use Prim.Native.Nat.{_-_, _≤_}
 use native.Mathlib.Omega.{arith}
-use Rattle.confinement.specs.StandIn.{entriesOf}
+use Rattle.bounds.specs.StandIn.{entriesOf}
 use Rattle.confinement.specs.Helpers.{listedTo}
 use Rattle.confinement.proofs.Scans.{listed-none, listed-on, listed-off, listed-all}
 use borrow.Author.Needs.{needs}

@@ -6,7 +6,7 @@ use native.Mathlib.Omega.{arith}
 use borrow.Author.Count.{below-more}
 use lib.ListN.{getD}
 use Rattle.table.specs.Cells.{emptySlot}
-use Rattle.confinement.specs.StandIn.{entriesOf}
+use Rattle.bounds.specs.StandIn.{entriesOf}
 use Rattle.confinement.specs.Helpers.{slotUnlisted}
 use Rattle.confinement.proofs.Scans.{unlisted-found, unlisted-missing}
 use borrow.Author.Needs.{needs}

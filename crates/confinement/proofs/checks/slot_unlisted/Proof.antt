@@ -1,6 +1,6 @@
 -- `slot_unlisted` is row 12 at one slot. Assumes nothing.
 use borrow.Author.Tests.{not-true, not-false}
-use Rattle.confinement.specs.StandIn.{entriesOf}
+use Rattle.bounds.specs.StandIn.{entriesOf}
 use Rattle.confinement.proofs.Scans.{slot-of-other, slot-to-member, slot-listed}
 use borrow.Author.Needs.{needs}
 use Rattle.confinement.proofs.checks.slot_unlisted.Statement.{statement}

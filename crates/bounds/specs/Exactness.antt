@@ -1,4 +1,4 @@
--- What is claimed of the bound, as statements; proofs/Bound.antt proves them.
+-- What is claimed of the bound, as statements; proofs/Exact.antt proves them.
 use mathlib.Core.Path.{_≡_}
 use mathlib.Core.Logic.{_↔_}
 use mathlib.Core.Bool.{true, false}
@@ -8,8 +8,8 @@ use Rattle.mask.specs.Sets.{has}
 use Rattle.table.specs.declared.Capability.{Capability}
 use Rattle.table.specs.declared.Table.{Table}
 use Rattle.relation.specs.Relation.{Influenced}
-use Rattle.confinement.specs.StandIn.{standIn, testHolding, boundOf}
-use Rattle.confinement.specs.Agreement.{AgreeOutside}
+use Rattle.bounds.specs.StandIn.{standIn, testHolding, boundOf}
+use Rattle.bounds.specs.Agreement.{AgreeOutside}
 
 -- "The bound is the set of non-members influenced by the stand-in", in the least relation
 unfoldable pub BoundExact : Type 0

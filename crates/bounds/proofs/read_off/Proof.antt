@@ -8,10 +8,10 @@ use Rattle.mask.specs.Sets.{has, including}
 use Rattle.mask.proofs.UpTo.{upTo, up-none, up-on, up-off, up-all}
 use Rattle.relation.specs.Relation.{wk}
 use Rattle.relation.specs.Helpers.{wordAt}
-use Rattle.confinement.specs.Helpers.{readOff}
+use Rattle.bounds.specs.Helpers.{readOff}
 use borrow.Author.Needs.{needs}
-use Rattle.confinement.proofs.bounds.read_off.Statement.{statement}
-use Rattle.confinement.proofs.bounds.read_off.Tie as tie
+use Rattle.bounds.proofs.read_off.Statement.{statement}
+use Rattle.bounds.proofs.read_off.Tie as tie
 
 abbrev Inv-loop : tie.InvT-loop
 Inv-loop members x words found₀ y₀ found y = (y ≤ 64) × (found ≡ upTo y (λ k. has x (wordAt words wk k) && not (has k members)))

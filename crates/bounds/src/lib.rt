@@ -1,12 +1,20 @@
 // The bound, document 01: the non-members that the stand-in influences. The stand-in sits at the lowest member's number and holds
 // exactly the list; no byte of a member enters it.
-use crate::EntryList;
+use table::Capability;
 use table::Table;
 ghost use mathlib.Core.Path.{_≡_};
 ghost use Prim.Native.Nat.{_≤_, _<_};
 ghost use Rattle.access.specs.Answers.{bornOutside};
-ghost use Rattle.confinement.specs.StandIn.{entriesOf, standIn, boundOf};
-ghost use Rattle.confinement.specs.Helpers.{readOff};
+ghost use Rattle.bounds.specs.StandIn.{entriesOf, standIn, boundOf};
+ghost use Rattle.bounds.specs.Helpers.{readOff};
+
+// A list of `count` entries (target, rights). A count above 8 is a list too long; entries at or after the count are no
+// part of it.
+#[repr(C)]
+pub struct EntryList {
+    pub count: u8,
+    pub entries: [Capability; 8],
+}
 
 // The lowest number of a set, 64 if it has none.
 pub fn lowest(set: u64) -> usize

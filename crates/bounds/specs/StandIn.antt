@@ -12,7 +12,7 @@ use Rattle.table.specs.Lists.{tabulate}
 use Rattle.table.specs.Cells.{emptySlot}
 use Rattle.relation.specs.Relation.{Right, bitAt, Holding, takesPart, holdsIn}
 use Rattle.relation.specs.Closure.{influencedSet}
-use Rattle.confinement.specs.declared.EntryList.{EntryList}
+use Rattle.bounds.specs.declared.EntryList.{EntryList}
 
 -- as many entries as the count says: a count above 8 is a list too long
 unfoldable pub entriesOf : EntryList → List Capability

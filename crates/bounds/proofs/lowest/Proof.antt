@@ -2,10 +2,10 @@
 use mathlib.Core.Path.{sym, _∙_}
 use Prim.Native.Nat.{_-_, _≤_}
 use native.Mathlib.Omega.{arith}
-use Rattle.confinement.proofs.BoundWords.{Seek, seek-none, seek-more, seek-found, seek-end}
+use Rattle.bounds.proofs.Words.{Seek, seek-none, seek-more, seek-found, seek-end}
 use borrow.Author.Needs.{needs}
-use Rattle.confinement.proofs.bounds.lowest.Statement.{statement}
-use Rattle.confinement.proofs.bounds.lowest.Tie as tie
+use Rattle.bounds.proofs.lowest.Statement.{statement}
+use Rattle.bounds.proofs.lowest.Tie as tie
 
 abbrev Inv-loop : tie.InvT-loop
 Inv-loop set i₀ i = (i ≤ 64) × Seek set i

@@ -18,9 +18,9 @@ use Rattle.table.specs.Cells.{isBorn}
 use Rattle.relation.specs.Relation.{Right, rd, wr, wk, tx, Can, Influenced, takesPart, holdsIn}
 use Rattle.relation.specs.Closure.{influencedSet, rowOf, link, bothTakePart, holdsStrong, reached}
 use Rattle.relation.proofs.Exact.{set-influenced, influenced-set, row-can, can-row}
-use Rattle.confinement.specs.StandIn.{standIn, testNode, testHeld, testHolding, boundOf}
-use Rattle.confinement.specs.Agreement.{AgreeOutside}
-use Rattle.confinement.specs.Exactness.{BoundExact, BoundBlind}
+use Rattle.bounds.specs.StandIn.{standIn, testNode, testHeld, testHolding, boundOf}
+use Rattle.bounds.specs.Agreement.{AgreeOutside}
+use Rattle.bounds.specs.Exactness.{BoundExact, BoundBlind}
 
 module _ (t : Table) (members : ℕ) (list : List Capability) where
   node-low-by : (m : Bool) (x : ℕ) → elim m as (λ k. Bool) [ true ↦ ltb x 64 && eqb x (standIn members) | false ↦ takesPart t x ] ≡ true → x < 64

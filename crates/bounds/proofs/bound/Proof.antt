@@ -2,10 +2,10 @@
 use native.Mathlib.Omega.{arith}
 use Rattle.relation.proofs.Saturation.{full-kept}
 use Rattle.access.proofs.StartWords.{begun, entered}
-use Rattle.confinement.proofs.BoundWords.{bound-answer}
+use Rattle.bounds.proofs.Words.{bound-answer}
 use borrow.Author.Needs.{needs}
-use Rattle.confinement.proofs.bounds.bound.Statement.{statement}
-use Rattle.confinement.proofs.bounds.bound.Tie as tie
+use Rattle.bounds.proofs.bound.Statement.{statement}
+use Rattle.bounds.proofs.bound.Tie as tie
 
 cast-count : tie.Need-cast-count
 cast-count c = search needs

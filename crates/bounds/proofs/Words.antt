@@ -27,10 +27,10 @@ use Rattle.relation.proofs.Exact.{means, links-can, influenced-links}
 use Rattle.relation.proofs.Saturation.{Base, base-kept, complete}
 use Rattle.access.proofs.StartWords.{Grounded, Begun, begun, Entered, entered}
 use Rattle.access.proofs.TableWords.{outside-lt, outside-facts, outside-intro, slot-held, held-slot}
-use Rattle.confinement.specs.declared.EntryList.{EntryList}
-use Rattle.confinement.specs.StandIn.{entriesOf, entryAt, listed, lowestFrom, standIn, testNode, testHeld, testHolding, boundOf}
-use Rattle.confinement.specs.Helpers.{readOff}
-use Rattle.confinement.proofs.Bound.{node-low, bound-lt, bound-only, bound-all}
+use Rattle.bounds.specs.declared.EntryList.{EntryList}
+use Rattle.bounds.specs.StandIn.{entriesOf, entryAt, listed, lowestFrom, standIn, testNode, testHeld, testHolding, boundOf}
+use Rattle.bounds.specs.Helpers.{readOff}
+use Rattle.bounds.proofs.Exact.{node-low, bound-lt, bound-only, bound-all}
 
 -- the lowest member, found by a loop ------------------------------------------------
 pub record Seek (set i : ℕ) : Type 0 where

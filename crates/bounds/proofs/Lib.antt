@@ -1,0 +1,3 @@
+-- The bound is exact and reads no byte of a member; what the code works it from.
+pub mod Exact
+pub mod Words
