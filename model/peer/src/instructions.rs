@@ -35,7 +35,7 @@ pub fn one(call: &str, input: &str) -> Option<ExitCode> {
 fn count_all() -> Result<(), String> {
     valgrind().arg("--version").output().map_err(missing)?;
     eprintln!(
-        "instructions: each call is run once under callgrind on every input, some minutes in all"
+        "instructions: each call is run once under callgrind on every input, a minute or two in all"
     );
     let program = std::env::current_exe()
         .map_err(|error| format!("the program does not know where it is: {error}"))?;
