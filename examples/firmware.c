@@ -1,12 +1,14 @@
 /*
- * A small main loop over the capability table: load an image, apply the requests that wait, test a newly
- * loaded subsystem, write the image back.
+ * A small main loop over the capability table: load an image, serve the mailboxes, test a newly loaded
+ * subsystem, write the image back.
  *
  *     firmware IMAGE NEW_IMAGE
  *
- * The requests here are those of document 01's examples 6, 7, 9 and 10 on its Table K, and some that are
- * no requests at all; a real case takes them from its mailboxes. Exit status: 0, or 1 when a file cannot be
- * used or the table is refused.
+ * Each object has a mailbox, and its routine puts requests there. Whose mailbox it is, is all that is known
+ * of who asks; what the routine wrote of that is not believed. The requests are those of document 01's
+ * examples 6, 7, 9 and 10 on its Table K, one that lies about its actor, and one that is no request at all.
+ * Exit status: 0, or 1 when a file cannot be used, the table is refused, or the library is of another
+ * version.
  */
 #include "captable.h"
 
@@ -15,39 +17,84 @@
 /* The case has one table. */
 static captable_table table;
 
-/* A request that waits, and what it is for the log. */
-struct waiting {
-    const char *what;
+/* What a routine put into its mailbox; length 0 for nothing. */
+struct mailbox {
+    const char *what; /* for the log */
     uint8_t bytes[CAPTABLE_REQUEST_BYTES];
     size_t length;
 };
 
-#define WAITING 8
+/* The mailbox of object n is the one at n. */
+static struct mailbox mailboxes[CAPTABLE_OBJECTS];
 
-/* Fills the queue. */
-static void collect(struct waiting *queue)
+/* The routines ask for the first time. */
+static void ask_first(void)
+{
+    struct mailbox *box = mailboxes;
+
+    box[0].what = "0 reads through slot 5";
+    box[0].length = captable_put_read(box[0].bytes, 0, 5);
+    box[1].what = "1 reads through slot 8";
+    box[1].length = captable_put_read(box[1].bytes, 1, 8);
+    box[2].what = "2 writes 7 through slot 0";
+    box[2].length = captable_put_write(box[2].bytes, 2, 0, 7);
+    box[4].what = "4 writes 7 through slot 0";
+    box[4].length = captable_put_write(box[4].bytes, 4, 0, 7);
+    box[5].what = "5 allocates 10 with part {11}";
+    box[5].length = captable_put_allocate(box[5].bytes, 5, 10, CAPTABLE_ACTIVE, (uint64_t)1 << 11, 7, NULL, 0);
+}
+
+/* And once more. Slot 0 of 4 is (3, wr), so that 4 could write 3's word; 2 has no right over 3. */
+static void ask_again(void)
 {
     static const uint8_t nonsense[5] = {99, 4, 0, 0, 0};
+    struct mailbox *box = mailboxes;
     size_t k;
 
-    queue[0].what = "5 allocates 10 with part {11}";
-    queue[0].length = captable_put_allocate(queue[0].bytes, 5, 10, CAPTABLE_ACTIVE, (uint64_t)1 << 11, 7, NULL, 0);
-    queue[1].what = "5 allocates 12";
-    queue[1].length = captable_put_allocate(queue[1].bytes, 5, 12, CAPTABLE_ACTIVE, 0, 7, NULL, 0);
-    queue[2].what = "4 writes 7 through slot 0";
-    queue[2].length = captable_put_write(queue[2].bytes, 4, 0, 7);
-    queue[3].what = "2 writes 7 through slot 0";
-    queue[3].length = captable_put_write(queue[3].bytes, 2, 0, 7);
-    queue[4].what = "1 reads through slot 8";
-    queue[4].length = captable_put_read(queue[4].bytes, 1, 8);
-    queue[5].what = "1 reads through slot 0";
-    queue[5].length = captable_put_read(queue[5].bytes, 1, 0);
-    queue[6].what = "0 reads through slot 5";
-    queue[6].length = captable_put_read(queue[6].bytes, 0, 5);
-    queue[7].what = "bytes that are no request";
+    box[1].what = "1 reads through slot 0";
+    box[1].length = captable_put_read(box[1].bytes, 1, 0);
+    box[2].what = "2 says that it is 4 and writes 9 through slot 0";
+    box[2].length = captable_put_write(box[2].bytes, 4, 0, 9);
+    box[4].what = "4 puts bytes that are no request";
     for (k = 0; k < sizeof nonsense; k++)
-        queue[7].bytes[k] = nonsense[k];
-    queue[7].length = sizeof nonsense;
+        box[4].bytes[k] = nonsense[k];
+    box[4].length = sizeof nonsense;
+    box[5].what = "5 allocates 12";
+    box[5].length = captable_put_allocate(box[5].bytes, 5, 12, CAPTABLE_ACTIVE, 0, 7, NULL, 0);
+}
+
+/* Takes a request out of the mailbox of `owner`, and stamps it. It is copied first: what the routine can
+ * still write could change between the stamp and the step. Its length is the routine's too, so it is cut
+ * to what a mailbox holds. */
+static size_t take(uint8_t owner, uint8_t *request)
+{
+    struct mailbox *box = &mailboxes[owner];
+    size_t length = box->length;
+    size_t k;
+
+    if (length > sizeof box->bytes)
+        length = sizeof box->bytes;
+    for (k = 0; k < length; k++)
+        request[k] = box->bytes[k];
+    box->length = 0;
+    captable_stamp(request, length, owner);
+    return length;
+}
+
+/* Serves every mailbox once. */
+static void serve(void)
+{
+    uint8_t request[CAPTABLE_REQUEST_BYTES];
+    uint8_t owner, number;
+    size_t length;
+
+    for (owner = 0; owner < CAPTABLE_OBJECTS; owner++) {
+        length = take(owner, request);
+        if (length == 0)
+            continue;
+        number = captable_step(&table, request, length);
+        printf("%s: %u, %s\n", mailboxes[owner].what, number, captable_reason(number));
+    }
 }
 
 /* Reads the image into the table. */
@@ -66,22 +113,11 @@ static int load(const char *path)
     fclose(file);
     outcome = captable_read(image, length);
     if (outcome.number != CAPTABLE_DONE) {
-        fprintf(stderr, "%s: image refused %u\n", path, outcome.number);
+        fprintf(stderr, "%s: image refused %u, %s\n", path, outcome.number, captable_reason(outcome.number));
         return 1;
     }
     table = outcome.table;
     return 0;
-}
-
-/* Applies what waits. */
-static void serve(void)
-{
-    struct waiting queue[WAITING];
-    size_t k;
-
-    collect(queue);
-    for (k = 0; k < WAITING; k++)
-        printf("%s: %u\n", queue[k].what, captable_step(&table, queue[k].bytes, queue[k].length));
 }
 
 /* Tests the subsystem {5, 10}, which may hold wr over 1. */
@@ -93,7 +129,7 @@ static int admit(void)
     unsigned n;
 
     if (finding.number != CAPTABLE_DONE) {
-        fprintf(stderr, "subsystem refused %u\n", finding.number);
+        fprintf(stderr, "subsystem refused %u, %s\n", finding.number, captable_reason(finding.number));
         return 1;
     }
     printf("subsystem accepted; it can influence:");
@@ -113,7 +149,7 @@ static int save(const char *path)
     int kept;
 
     if (number != CAPTABLE_DONE) {
-        fprintf(stderr, "image not written: %u\n", number);
+        fprintf(stderr, "image not written: %u, %s\n", number, captable_reason(number));
         return 1;
     }
     file = fopen(path, "wb");
@@ -135,9 +171,17 @@ int main(int count, char **words)
         fprintf(stderr, "usage: firmware IMAGE NEW_IMAGE\n");
         return 1;
     }
+    if (captable_version() != CAPTABLE_VERSION) {
+        fprintf(stderr, "the library is of another version than its header\n");
+        return 1;
+    }
     if (load(words[1]) != 0)
         return 1;
+    ask_first();
     serve();
+    ask_again();
+    serve();
+    printf("3's word is %lu\n", (unsigned long)table.records[3].word);
     if (admit() != 0)
         return 1;
     return save(words[2]);

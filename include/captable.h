@@ -1,19 +1,52 @@
 /*
  * captable.h: the proved capability table for firmware in C and C++.
  *
- * Link with libcaptable.a, which `rt staticlib captable` proves and writes. It needs memcpy and memset
- * and nothing else: no heap, no global state, no other call. Every call ends, whatever it is handed; the
- * only thing that is taken on trust is that a pointer points to as many bytes as its length says. With a
- * length of 0 it may be NULL.
- *
  * The table is one fixed table of 64 objects with eight capabilities each. Its rules are document 01's,
  * and every answer is document 01's number: 0 for done, or why not (enum captable_number).
  *
- * A step has the table lent and changes it in place. The other calls take the table by value: they work
- * on their own copy, so nothing can change it between their checks and their answer.
+ * Link with libcaptable.a, which `rt staticlib captable` proves and writes. It needs memcpy and memset
+ * and nothing else: no heap, no global state, no other call. Every call ends, whatever it is handed.
+ *
+ * What is proved holds as long as whoever calls keeps to these six. The library cannot see any of them
+ * broken, and it does not say so when one is.
+ *
+ * 1. One caller at a time. During captable_step nothing else reads or writes that table: no interrupt
+ *    handler, no thread, no other core. A step copies the table out and, at its end, back; a second step
+ *    in between is answered 0 and then undone. On a bare machine, either turn interrupts off around the
+ *    step, or let the interrupt put its request into a queue and the main loop take the step;
+ *    examples/interrupts.c shows both, and what is lost otherwise. Other cores need a lock as well. The
+ *    calls that take the table by value copy it before they begin: the same holds while that copy is made.
+ * 2. The firmware writes the actor. Who asks is a byte of the request, and the library believes it: see
+ *    "a request's bytes" below.
+ * 3. A pointer points to as many bytes as its length says, and to bytes that nothing else writes during
+ *    the call. With a length of 0 it may be NULL.
+ * 4. A table's pointer, and the buffer of captable_confine, are never NULL. A table that is lent is
+ *    aligned as the struct is and overlaps nothing else that is lent; nor does a buffer that is filled.
+ * 5. There is stack enough: CAPTABLE_STACK_... below. A call on a stack that is too small writes over
+ *    what lies beneath it, and returns as if all were well.
+ * 6. The processor is an x86-64 with SSE2 turned on, calls follow the System V convention (so no
+ *    -mabi=ms), and memcpy and memset are what C says they are.
+ *
+ * The archive's code, for whoever writes the interrupt handlers: it uses the registers xmm0 to xmm7 for
+ * moves and whole numbers, with no floating-point arithmetic; a handler that makes a call saves them first,
+ * with the other registers that a C function may change. It keeps nothing below the stack pointer (no red
+ * zone), so handlers may run on the same stack without leaving 128 bytes free for it.
  */
 #ifndef CAPTABLE_H
 #define CAPTABLE_H
+
+/* ---- the machine ---------------------------------------------------------------------------------- */
+
+/* Before anything else, so that this is the first thing that a compiler for another machine says. */
+#if !defined(__x86_64__) || defined(__ILP32__)
+#error "libcaptable.a is for x86-64 with 64-bit pointers alone"
+#elif !defined(__ELF__)
+#error "libcaptable.a is ELF with the System V calling convention: not for Windows, UEFI or macOS"
+#elif !defined(__SSE2__) && !defined(CAPTABLE_SSE_IS_ON)
+/* For code that is itself built without SSE, as a kernel is: whoever defines CAPTABLE_SSE_IS_ON says that
+ * SSE is turned on when a call is made (CR4.OSFXSR), and that nobody's xmm registers are lost by it. */
+#error "libcaptable.a uses SSE2 registers: build with SSE2, or turn SSE on and define CAPTABLE_SSE_IS_ON"
+#endif
 
 #include <stddef.h>
 #include <stdint.h>
@@ -21,6 +54,21 @@
 #ifdef __cplusplus
 extern "C" {
 #endif
+
+/* An answer that nobody looks at is a refusal that nobody sees: the compiler warns of it. */
+#if defined(__cplusplus) && __cplusplus >= 201703L
+#define CAPTABLE_ANSWER [[nodiscard]]
+#elif defined(__GNUC__)
+#define CAPTABLE_ANSWER __attribute__((warn_unused_result))
+#else
+#define CAPTABLE_ANSWER
+#endif
+
+/* ---- version -------------------------------------------------------------------------------------- */
+
+/* The version of the calls, 0.1.0: the first number times 65,536, the second times 256, and the third.
+ * captable_version gives that of the archive. Compare the two at start. */
+#define CAPTABLE_VERSION 256
 
 /* ---- sizes ---------------------------------------------------------------------------------------- */
 
@@ -30,7 +78,35 @@ extern "C" {
 #define CAPTABLE_REQUEST_BYTES 22 /* the longest request: an allocate with four pairs */
 #define CAPTABLE_PAIRS 4          /* the most pairs in the list of a send or an allocate */
 #define CAPTABLE_ENTRIES 8        /* the most entries in the list of a test */
-#define CAPTABLE_PRINTED 256      /* the buffer that captable_confine fills */
+#define CAPTABLE_PRINTED 256      /* the buffer of captable_confine */
+
+/* ---- stack ---------------------------------------------------------------------------------------- */
+
+/*
+ * The bytes of stack that each call takes on any input, and the most of them.
+ *
+ * Counted: everything from the return address of the call downwards, memcpy and memset with their return
+ * address and no more, and for a call that takes the table by value the 2,048 bytes of it that the caller
+ * pushes. The stack pointer is a multiple of 16 where the call is made, as the calling convention has it.
+ *
+ * Not counted, and the caller's to add: its own frames, with the place of the struct that is given back
+ * (up to 2,056 bytes); what your memcpy and memset take beyond their return address; and what is pushed
+ * by interrupts that run on the same stack, with all that their handlers call. A handler that takes a
+ * step itself needs CAPTABLE_STACK_STEP once more. The archive has no red zone; if your own code has one,
+ * 128 bytes.
+ *
+ * A test measures every call and holds these numbers to it (model/peer/tests/stack.rs).
+ */
+#define CAPTABLE_STACK_STEP 12616
+#define CAPTABLE_STACK_STEP_BY_VALUE 10536
+#define CAPTABLE_STACK_SOUND 4200
+#define CAPTABLE_STACK_ACCESS 14424
+#define CAPTABLE_STACK_TEST 12456
+#define CAPTABLE_STACK_READ 11448
+#define CAPTABLE_STACK_WRITE 6264
+#define CAPTABLE_STACK_CONFINE 12536
+#define CAPTABLE_STACK_VERSION 8
+#define CAPTABLE_STACK_MOST 14424
 
 /* ---- values --------------------------------------------------------------------------------------- */
 
@@ -58,26 +134,73 @@ enum captable_code {
 /* The `reply` of a send that asks for no reply slot. */
 #define CAPTABLE_NO_REPLY 8
 
-/* Every answer of every call. Checks run in number order, among those that apply. */
+/* Every answer of every call, and of the program `confine`. Checks run in number order, among those that
+ * apply. captable_reason says each in words. */
 enum captable_number {
     CAPTABLE_DONE = 0,
-    CAPTABLE_TABLE_UNSOUND = 1,   /* the table is not sound */
-    CAPTABLE_FIELD_INVALID = 2,   /* a field out of range, a list too long, or bytes that are no request */
-    CAPTABLE_ACTOR_UNFIT = 3,     /* the actor is not alive, or passive */
-    CAPTABLE_SLOT_EMPTY = 4,      /* the slot that is used is empty */
-    CAPTABLE_TARGET_DEAD = 5,     /* the target is dead */
-    CAPTABLE_RIGHT_ABSENT = 6,    /* the slot lacks the right that is needed */
-    CAPTABLE_TARGET_PASSIVE = 7,  /* a send to a passive target */
-    CAPTABLE_ACTOR_ITSELF = 8,    /* a destroy of the actor itself */
-    CAPTABLE_NOT_IN_STOCK = 9,    /* the number or the part of an allocate is outside the actor's stock */
+    CAPTABLE_TABLE_UNSOUND = 1,    /* the table is not sound */
+    CAPTABLE_FIELD_INVALID = 2,    /* a field out of range, a list too long, or bytes that are no request */
+    CAPTABLE_ACTOR_UNFIT = 3,      /* the actor is not alive, or passive */
+    CAPTABLE_SLOT_EMPTY = 4,       /* the slot that is used is empty */
+    CAPTABLE_TARGET_DEAD = 5,      /* the target is dead */
+    CAPTABLE_RIGHT_ABSENT = 6,     /* the slot lacks the right that is needed */
+    CAPTABLE_TARGET_PASSIVE = 7,   /* a send to a passive target */
+    CAPTABLE_ACTOR_ITSELF = 8,     /* a destroy of the actor itself */
+    CAPTABLE_NOT_IN_STOCK = 9,     /* the number or the part of an allocate is outside the actor's stock */
     CAPTABLE_MEMBERS_INVALID = 10, /* test: no member, or one that is not alive */
-    CAPTABLE_LIST_INVALID = 11,   /* test: a list too long, no list, or an entry that is no right over a born non-member */
-    CAPTABLE_RIGHT_UNLISTED = 12, /* test: a member holds a right over a non-member that is not listed */
-    CAPTABLE_MEMBER_HELD = 13,    /* test: a non-member holds a capability naming a member */
-    CAPTABLE_IMAGE_LENGTH = 14,   /* reading: not 1,923 bytes, or the length field says otherwise */
-    CAPTABLE_IMAGE_VERSION = 15,  /* reading: the version byte is not 1 */
-    CAPTABLE_BUFFER_SHORT = 16    /* writing: a buffer below 1,923 bytes */
+    CAPTABLE_LIST_INVALID = 11,    /* test: a list too long, no list, or an entry that is no right over a born non-member */
+    CAPTABLE_RIGHT_UNLISTED = 12,  /* test: a member holds a right over a non-member that is not listed */
+    CAPTABLE_MEMBER_HELD = 13,     /* test: a non-member holds a capability naming a member */
+    CAPTABLE_LENGTH_WRONG = 14,    /* reading: not 1,923 bytes, or the length field says otherwise */
+    CAPTABLE_VERSION_WRONG = 15,   /* reading: the version byte is not 1 */
+    CAPTABLE_BUFFER_SHORT = 16,    /* writing: a buffer below 1,923 bytes */
+    CAPTABLE_INPUT_WRONG = 17      /* confine: an input of wrong length; captable_confine prints it */
 };
+
+/* Why a call was answered with the number, in plain words for a log. Never NULL. */
+static inline const char *captable_reason(uint8_t number)
+{
+    switch (number) {
+    case CAPTABLE_DONE:
+        return "done";
+    case CAPTABLE_TABLE_UNSOUND:
+        return "the table is not sound";
+    case CAPTABLE_FIELD_INVALID:
+        return "a field is out of range, or the bytes are no request";
+    case CAPTABLE_ACTOR_UNFIT:
+        return "the actor is not alive and active";
+    case CAPTABLE_SLOT_EMPTY:
+        return "the slot is empty";
+    case CAPTABLE_TARGET_DEAD:
+        return "the target is dead";
+    case CAPTABLE_RIGHT_ABSENT:
+        return "the right is absent";
+    case CAPTABLE_TARGET_PASSIVE:
+        return "the target is passive";
+    case CAPTABLE_ACTOR_ITSELF:
+        return "the target is the actor itself";
+    case CAPTABLE_NOT_IN_STOCK:
+        return "the number or the part is outside the stock";
+    case CAPTABLE_MEMBERS_INVALID:
+        return "there is no member, or one is not alive";
+    case CAPTABLE_LIST_INVALID:
+        return "the list is too long, or an entry is invalid";
+    case CAPTABLE_RIGHT_UNLISTED:
+        return "a member holds a right that is not listed";
+    case CAPTABLE_MEMBER_HELD:
+        return "a non-member holds a capability naming a member";
+    case CAPTABLE_LENGTH_WRONG:
+        return "the image has a wrong length";
+    case CAPTABLE_VERSION_WRONG:
+        return "the image has a wrong version";
+    case CAPTABLE_BUFFER_SHORT:
+        return "the buffer is too short";
+    case CAPTABLE_INPUT_WRONG:
+        return "the input has a wrong length";
+    default:
+        return "no answer of the table has this number";
+    }
+}
 
 /* ---- structs -------------------------------------------------------------------------------------- */
 
@@ -95,7 +218,7 @@ typedef struct captable_record {
     uint64_t stock;
 } captable_record;
 
-/* The table. Slot j of object n is slots[n * 8 + j]. All zero is the wholly unborn table. */
+/* The table. Slot j of object n is slots[n * 8 + j], see captable_slot. All zero is the wholly unborn table. */
 typedef struct captable_table {
     captable_record records[CAPTABLE_OBJECTS];
     captable_capability slots[CAPTABLE_OBJECTS * CAPTABLE_SLOTS];
@@ -138,54 +261,101 @@ CAPTABLE_ASSERT(relation_number, offsetof(captable_relation, number) == 2048);
 CAPTABLE_ASSERT(finding, sizeof(captable_finding) == 16);
 CAPTABLE_ASSERT(finding_number, offsetof(captable_finding, number) == 8);
 
+/* ---- a slot --------------------------------------------------------------------------------------- */
+
+/* Neither checks anything: n is 0 to 63 and j is 0 to 7, or memory beside the table is used. */
+
+/* What slot j of object n holds. */
+static inline captable_capability captable_slot(const captable_table *table, size_t n, size_t j)
+{
+    return table->slots[n * CAPTABLE_SLOTS + j];
+}
+
+/* The place of slot j of object n, to fill a table before it is used. A table that has been served is
+ * changed by steps alone: what is written past them is written past the rules. */
+static inline captable_capability *captable_slot_at(captable_table *table, size_t n, size_t j)
+{
+    return &table->slots[n * CAPTABLE_SLOTS + j];
+}
+
 /* ---- calls ---------------------------------------------------------------------------------------- */
 
+/* The version of the archive: CAPTABLE_VERSION, if it is the one that this header belongs to. */
+uint32_t captable_version(void);
+
 /* 0 for a sound table, 1 for any other. */
-uint8_t captable_sound(captable_table table);
+CAPTABLE_ANSWER uint8_t captable_sound(captable_table table);
 
 /*
  * One request on the lent table: its reply. A refusal leaves the table as it was.
+ *
+ * One caller at a time: from the beginning of the step to its end nothing else reads or writes this table,
+ * interrupts and other cores included. A step that an interrupt takes in the middle of another is answered
+ * 0 and then undone, a revoke too. Turn interrupts off around the step, or queue requests in the interrupt
+ * and take the steps in the main loop (examples/interrupts.c).
+ *
+ * The actor in the bytes is believed: captable_stamp, below, before the step.
  *
  * The bytes are the code and then document 01's fields in their order, a byte each; a word is 4 bytes and
  * a part 8, the most significant first; a list is its count and then its pairs (actor's slot, destination
  * slot). The captable_put_... functions below write them. Bytes that are no request get 2.
  */
-uint8_t captable_step(captable_table *table, const uint8_t *request, size_t length);
+CAPTABLE_ANSWER uint8_t captable_step(captable_table *table, const uint8_t *request, size_t length);
 
-/* The same by value: the reply, and the table after it. */
-captable_outcome captable_step_by_value(captable_table table, const uint8_t *request, size_t length);
+/*
+ * The same step as a question: what would this request be answered, and what would the table be after it?
+ * The caller's own table is not changed; whoever wants the step done keeps the table that is given back,
+ * which on a refusal is the table that was given.
+ */
+CAPTABLE_ANSWER captable_outcome captable_step_by_value(captable_table table, const uint8_t *request, size_t length);
 
 /* Potential access, whole; for a table that is not sound the number 1 and no rights. */
-captable_relation captable_access(captable_table table);
+CAPTABLE_ANSWER captable_relation captable_access(captable_table table);
 
 /*
  * The confinement test: which objects can a set of members, bit n for object n, ever influence, if they
  * hold no more over non-members than the list has? Each entry of the list is two bytes: target, rights.
  * Bytes of odd length are no list and get 11.
  */
-captable_finding captable_test(captable_table table, uint64_t members, const uint8_t *list, size_t length);
+CAPTABLE_ANSWER captable_finding captable_test(captable_table table, uint64_t members, const uint8_t *list,
+                                               size_t length);
 
 /* Reads an image; on every refusal with the wholly unborn table. */
-captable_outcome captable_read(const uint8_t *image, size_t length);
+CAPTABLE_ANSWER captable_outcome captable_read(const uint8_t *image, size_t length);
 
 /* Writes the table's image into the first 1,923 bytes of the buffer and touches no byte after them. A
  * refusal leaves every byte. */
-uint8_t captable_write(captable_table table, uint8_t *buffer, size_t length);
+CAPTABLE_ANSWER uint8_t captable_write(captable_table table, uint8_t *buffer, size_t length);
 
 /*
  * Puts what the program `confine` prints for an input (an image, 8 bytes of members, a count byte, two
- * bytes an entry) at the start of a buffer of 256 bytes, leaves the rest of it, and says how many bytes
- * that is: at most 191.
+ * bytes an entry) at the start of a buffer of CAPTABLE_PRINTED bytes, leaves the rest of it, and says how
+ * many bytes that is: at most 191. There is no 0 byte after them. `printed` is never NULL.
  */
-size_t captable_confine(const uint8_t *input, size_t length, uint8_t *printed);
+CAPTABLE_ANSWER size_t captable_confine(const uint8_t *input, size_t length, uint8_t *printed);
 
 /* ---- a request's bytes ---------------------------------------------------------------------------- */
 
 /*
- * Each writes a request into a buffer of CAPTABLE_REQUEST_BYTES bytes and gives its length, for
- * captable_step. `t` is the actor's slot that is used; its target is the target. Nothing is checked here:
- * the step refuses what is out of range. A list is `count` pairs of two bytes each; one that is too long
- * gives the length 0, which the step refuses by 2.
+ * The actor is who asks, and only the firmware knows who that is. The actor byte is authority: the step
+ * takes the actor's slots, and a routine that fills in its own request can write any number there and speak
+ * as any object. So the firmware, which knows whose mailbox it is emptying, writes the actor over whatever
+ * the routine put there, and does so on a copy that the routine can no longer write.
+ */
+
+/* Stamps the actor into the bytes of a request, whatever its code. Bytes too short to have an actor are
+ * left as they are; the step refuses them by 2. */
+static inline void captable_stamp(uint8_t *request, size_t length, uint8_t actor)
+{
+    if (length > 1)
+        request[1] = actor;
+}
+
+/*
+ * Each captable_put_... writes a request into a buffer of CAPTABLE_REQUEST_BYTES bytes and gives its length,
+ * for captable_step. `t` is the actor's slot that is used; its target is the target. Nothing is checked
+ * here: the step refuses what is out of range. A list is `count` pairs of two bytes each; one that is too
+ * long gives the length 0, which the step refuses by 2.
  */
 
 static inline size_t captable_put_number(uint8_t *out, uint64_t number, size_t size)

@@ -9,7 +9,12 @@ use captable::raw;
 extern "C" {
     /// The soundness scan in C.
     fn peer_scan(table: *const raw::Table) -> u8;
+    /// The archive's version.
+    pub(crate) fn captable_version() -> u32;
 }
+
+/// The version that the comparison is for, 0.1.0: the first number times 65,536, the second times 256.
+pub const VERSION: u32 = 256;
 
 /// The archive's calls, and the scan in C.
 pub trait Calls {
@@ -59,6 +64,12 @@ pub trait Calls {
     fn confine(&self, input: &mut [u8], out: &mut [u8; 256]) -> usize {
         // SAFETY: pointer and length are of one slice; the buffer is borrowed for the call alone.
         unsafe { raw::captable_confine(input.as_mut_ptr(), input.len(), out) }
+    }
+
+    /// The archive's version.
+    fn version(&self) -> u32 {
+        // SAFETY: the call takes nothing.
+        unsafe { captable_version() }
     }
 
     /// The scan in C: 0 for a sound table, 1 for any other.

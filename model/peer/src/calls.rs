@@ -3,7 +3,7 @@
 use yavrinks_model::table::Table;
 use yavrinks_tools::generate::printed_number;
 
-use crate::archive::{Archive, Calls};
+use crate::archive::{Archive, Calls, VERSION};
 use crate::convert::to_raw;
 
 /// An exported call.
@@ -17,10 +17,11 @@ pub enum Call {
     Read,
     Write,
     Confine,
+    Version,
 }
 
 impl Call {
-    pub const ALL: [Call; 8] = [
+    pub const ALL: [Call; 9] = [
         Call::Step,
         Call::Stepped,
         Call::Sound,
@@ -29,6 +30,7 @@ impl Call {
         Call::Read,
         Call::Write,
         Call::Confine,
+        Call::Version,
     ];
 
     /// The name that the archive exports.
@@ -42,12 +44,16 @@ impl Call {
             Call::Read => "captable_read",
             Call::Write => "captable_write",
             Call::Confine => "captable_confine",
+            Call::Version => "captable_version",
         }
     }
 
     /// Is the table pushed by the caller?
     pub fn takes_table(self) -> bool {
-        !matches!(self, Call::Step | Call::Read | Call::Confine)
+        !matches!(
+            self,
+            Call::Step | Call::Read | Call::Confine | Call::Version
+        )
     }
 }
 
@@ -79,5 +85,11 @@ pub fn answer(call: Call, sample: &Sample) -> u8 {
             let count = Archive.confine(&mut bytes, &mut out);
             printed_number(&String::from_utf8_lossy(&out[..count.min(256)]))
         }
+        Call::Version => version_number(Archive.version()),
     }
+}
+
+/// The version's stand-in for a number: 0 for the one that is expected, 1 for any other.
+pub fn version_number(version: u32) -> u8 {
+    u8::from(version != VERSION)
 }

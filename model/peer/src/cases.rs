@@ -25,6 +25,7 @@ pub fn samples(call: Call) -> Vec<Sample> {
         Call::Read => places.iter().flat_map(reads).collect(),
         Call::Write => places.iter().flat_map(writes).collect(),
         Call::Confine => tests().into_iter().map(confined).chain([short()]).collect(),
+        Call::Version => vec![nothing()],
     }
 }
 
@@ -148,6 +149,17 @@ fn input(name: String, bytes: Vec<u8>) -> Sample {
         table: Table::unborn(),
         members: 0,
         bytes,
+    }
+}
+
+/// What a call is given that takes nothing.
+fn nothing() -> Sample {
+    Sample {
+        name: String::from("nothing"),
+        number: 0,
+        table: Table::unborn(),
+        members: 0,
+        bytes: Vec::new(),
     }
 }
 

@@ -5,6 +5,8 @@ use std::io;
 use std::path::Path;
 use std::process::{Command, ExitCode};
 
+use yavrinks_tools::progress::Progress;
+
 use crate::calls::{answer, Call};
 use crate::cases::samples;
 
@@ -32,22 +34,30 @@ pub fn one(call: &str, input: &str) -> Option<ExitCode> {
 
 fn count_all() -> Result<(), String> {
     valgrind().arg("--version").output().map_err(missing)?;
+    eprintln!(
+        "instructions: each call is run once under callgrind on every input, a minute or two in all"
+    );
     let program = std::env::current_exe()
         .map_err(|error| format!("the program does not know where it is: {error}"))?;
     println!(
         "Instructions inside a call, least and most of several inputs. A table by value is copied"
     );
     println!("by the caller, which is not counted.\n");
-    println!("{:18}{:>9}  {:42}{:>9}  on", "call", "least", "on", "most");
+    println!("{:24}{:>9}  {:42}{:>9}  on", "call", "least", "on", "most");
+    let all = Call::ALL.iter().map(|&call| samples(call).len() as u64);
+    let mut progress = Progress::new("instructions: inputs counted", all.sum());
+    let mut done = 0;
     for call in Call::ALL {
         let mut counted = Vec::new();
         for (k, sample) in samples(call).iter().enumerate() {
+            progress.at(done);
+            done += 1;
             let count = count(&program, call, k)?;
             counted.push((count, format!("{} ({})", sample.name, sample.number)));
         }
         counted.sort();
         if let (Some((least, best)), Some((most, worst))) = (counted.first(), counted.last()) {
-            println!("{:18}{least:>9}  {best:42}{most:>9}  {worst}", call.name());
+            println!("{:24}{least:>9}  {best:42}{most:>9}  {worst}", call.name());
         }
     }
     println!("\nAfter the name of an input: the number that was answered, 0 for done.");

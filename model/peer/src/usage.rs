@@ -19,7 +19,8 @@ usage: yavrinks-peer COMMAND
       that does nothing else.
 
   stack
-      Measures how many bytes of stack each call of the archive takes (x86-64 alone).
+      Measures how many bytes of stack each call of the archive takes (x86-64 alone). The header
+      states these numbers, and a test holds it to them.
 
   instructions
       Counts the instructions of each call of the archive, best and worst of several inputs. Needs
@@ -27,6 +28,8 @@ usage: yavrinks-peer COMMAND
 
   help
       Prints this text.
+
+Findings go to standard output. What a command does and how far it is goes to standard error.
 
 Exit status: 0 if all is well, 1 for a difference or a measurement that could not be made, 2 for a
 command line that is not understood.

@@ -41,6 +41,6 @@ fn the_archive_answers_every_sample_as_the_model_does() {
             numbers.push(number);
         }
         assert!(numbers.contains(&0), "{} is never done", call.name());
-        assert!(numbers.contains(&1) || call == Call::Confine);
+        assert!(numbers.contains(&1) || matches!(call, Call::Confine | Call::Version));
     }
 }

@@ -7,7 +7,9 @@ mod wholes;
 
 use std::process::ExitCode;
 
-use crate::samples::{places, requests};
+use yavrinks_tools::progress::Progress;
+
+use crate::samples::{places, requests, Place};
 use measure::{Figures, ROUNDS};
 
 /// The most that a lent step should take, in scans.
@@ -22,29 +24,61 @@ destroy are undone after each call, on both sides alike. The time of the scan in
 
 /// Times everything and prints a line a call.
 pub fn command() -> ExitCode {
+    let places = places();
+    let each: usize = places
+        .iter()
+        .map(|place| requests(&place.table).len())
+        .sum();
+    let all = 3 * each + places.len() * wholes::ALL.len();
+    eprintln!("bench: {all} calls to be timed, about a tenth of a second each");
+    let mut timing = Timing::new(all as u64);
+
     println!("{ROUNDS} rounds of each side, taken in turn.\n{NOTE}");
     head("call", "proved ns", "model ns");
-    for place in places() {
-        let at = |what: &str| format!("{what}, {}", place.name);
+    for place in &places {
         for (name, request) in requests(&place.table) {
-            let figures = steps::by_value(&place.table, &request);
-            line(&at(&format!("{name} by value")), &figures);
-            let figures = steps::lent(&place.table, &request);
-            line(&at(&format!("{name} lent")), &figures);
+            timing.line(place, &format!("{name} by value"), || {
+                steps::by_value(&place.table, &request)
+            });
+            timing.line(place, &format!("{name} lent"), || {
+                steps::lent(&place.table, &request)
+            });
         }
-        for (name, figures) in wholes::figures(&place) {
-            line(&at(name), &figures);
+        for (name, figures) in wholes::ALL {
+            timing.line(place, name, || figures(place));
         }
     }
     println!("\nThe lent step against one soundness scan in C -O3. Goal: at most {GOAL:.2}.\n");
     head("call", "step ns", "scan ns");
-    for place in places() {
+    for place in &places {
         for (name, request) in requests(&place.table) {
-            let figures = steps::lent_against_scan(&place.table, &request);
-            line(&format!("{name} lent, {}", place.name), &figures);
+            timing.line(place, &format!("{name} lent"), || {
+                steps::lent_against_scan(&place.table, &request)
+            });
         }
     }
     ExitCode::SUCCESS
+}
+
+/// Takes the figures one after the other, and says how far it is.
+struct Timing {
+    progress: Progress,
+    done: u64,
+}
+
+impl Timing {
+    fn new(all: u64) -> Timing {
+        Timing {
+            progress: Progress::new("bench: calls timed", all),
+            done: 0,
+        }
+    }
+
+    fn line(&mut self, place: &Place, name: &str, figures: impl FnOnce() -> Figures) {
+        self.progress.at(self.done);
+        self.done += 1;
+        line(&format!("{name}, {}", place.name), &figures());
+    }
 }
 
 fn head(call: &str, first: &str, second: &str) {

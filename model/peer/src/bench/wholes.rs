@@ -13,17 +13,18 @@ use crate::archive::{Archive, Calls};
 use crate::convert::to_raw;
 use crate::samples::{held_list, Place};
 
-/// Each call with its figures.
-pub fn figures(place: &Place) -> Vec<(&'static str, Figures)> {
-    vec![
-        ("soundness", soundness(place)),
-        ("one scan in C -O3", scan(place)),
-        ("confinement test", test(place)),
-        ("potential access", access(place)),
-        ("image read", read(place)),
-        ("image write", write(place)),
-    ]
-}
+/// Takes the figures of one call.
+type Take = fn(&Place) -> Figures;
+
+/// Each call by name.
+pub const ALL: [(&str, Take); 6] = [
+    ("soundness", soundness),
+    ("one scan in C -O3", scan),
+    ("confinement test", test),
+    ("potential access", access),
+    ("image read", read),
+    ("image write", write),
+];
 
 fn soundness(place: &Place) -> Figures {
     let mut given = to_raw(&place.table);

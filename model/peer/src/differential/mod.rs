@@ -42,6 +42,7 @@ pub struct Found {
 
 /// Compares the linked archive with the model, and prints what was compared or the first difference.
 pub fn command(seed: u64, requests: u64, inputs: u64) -> ExitCode {
+    eprintln!("differential: {requests} requests are compared with the model, then {inputs} images and inputs of confine");
     let mut counts = Counts::default();
     let compared = compare_requests(&Archive, seed, requests, &mut counts)
         .and_then(|()| compare_inputs(&Archive, seed, inputs, &mut counts));

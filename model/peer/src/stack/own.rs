@@ -7,7 +7,8 @@ use std::mem::{size_of, size_of_val};
 use captable::raw;
 use yavrinks_tools::generate::printed_number;
 
-use crate::calls::{Call, Sample};
+use crate::archive::captable_version;
+use crate::calls::{version_number, Call, Sample};
 use crate::convert::to_raw;
 
 /// The length of the stack: far more than any call should take.
@@ -35,7 +36,10 @@ fn taken(call: Call, sample: &Sample, pattern: u8) -> Option<usize> {
             raw::captable_step as *const (),
             [&raw mut table as u64, start, length],
         ),
-        Call::Stepped => (raw::captable_step_by_value as *const (), [given, start, length]),
+        Call::Stepped => (
+            raw::captable_step_by_value as *const (),
+            [given, start, length],
+        ),
         Call::Sound => (raw::captable_sound as *const (), [0; 3]),
         Call::Access => (raw::captable_access as *const (), [given, 0, 0]),
         Call::Test => (
@@ -45,6 +49,7 @@ fn taken(call: Call, sample: &Sample, pattern: u8) -> Option<usize> {
         Call::Read => (raw::captable_read as *const (), [given, start, length]),
         Call::Write => (raw::captable_write as *const (), [start, length, 0]),
         Call::Confine => (raw::captable_confine as *const (), [start, length, given]),
+        Call::Version => (captable_version as *const (), [0; 3]),
     };
     let pushed = call.takes_table().then_some(&table);
     let mut stack = vec![u128::from_ne_bytes([pattern; 16]); LENGTH / 16];
@@ -59,6 +64,7 @@ fn taken(call: Call, sample: &Sample, pattern: u8) -> Option<usize> {
             let count = usize::try_from(registers[0]).map_or(0, |count| count.min(256));
             printed_number(&String::from_utf8_lossy(&result[..count]))
         }
+        Call::Version => version_number(registers[0] as u32),
     };
     (number == sample.number).then(|| depth(&stack, pattern))
 }

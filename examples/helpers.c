@@ -1,0 +1,113 @@
+/*
+ * What the header itself gives: reasons, stamping, slots, version, the bytes of requests. Each is held to
+ * what document 01 says, written out here. Exit status: 0 if all is as it should be, 1 if not.
+ */
+#include "captable.h"
+
+#include <stdio.h>
+#include <string.h>
+
+static int wrong;
+
+static void check(int holds, const char *what)
+{
+    if (!holds) {
+        fprintf(stderr, "not so: %s\n", what);
+        wrong = 1;
+    }
+}
+
+/* One reason for each of 0 to 17, each other than the rest, and one for all numbers that are no answer. */
+static void reasons(void)
+{
+    unsigned a, b;
+
+    for (a = 0; a <= 255; a++) {
+        const char *reason = captable_reason((uint8_t)a);
+        check(reason != NULL && strlen(reason) > 3, "every number has a reason");
+        if (a > 18)
+            check(strcmp(reason, captable_reason(18)) == 0, "18 and above are no answers");
+    }
+    for (a = 0; a <= 18; a++)
+        for (b = 0; b < a; b++)
+            check(strcmp(captable_reason((uint8_t)a), captable_reason((uint8_t)b)) != 0, "reasons differ");
+    check(strcmp(captable_reason(0), "done") == 0, "0 is done");
+    check(strcmp(captable_reason(17), "the input has a wrong length") == 0, "17 is confine's own");
+}
+
+/* The numbers of document 01, by name. */
+static void numbers(void)
+{
+    check(CAPTABLE_TABLE_UNSOUND == 1 && CAPTABLE_FIELD_INVALID == 2 && CAPTABLE_ACTOR_UNFIT == 3, "1 to 3");
+    check(CAPTABLE_SLOT_EMPTY == 4 && CAPTABLE_TARGET_DEAD == 5 && CAPTABLE_RIGHT_ABSENT == 6, "4 to 6");
+    check(CAPTABLE_TARGET_PASSIVE == 7 && CAPTABLE_ACTOR_ITSELF == 8 && CAPTABLE_NOT_IN_STOCK == 9, "7 to 9");
+    check(CAPTABLE_MEMBERS_INVALID == 10 && CAPTABLE_LIST_INVALID == 11, "10 and 11");
+    check(CAPTABLE_RIGHT_UNLISTED == 12 && CAPTABLE_MEMBER_HELD == 13, "12 and 13");
+    check(CAPTABLE_LENGTH_WRONG == 14 && CAPTABLE_VERSION_WRONG == 15, "14 and 15");
+    check(CAPTABLE_BUFFER_SHORT == 16 && CAPTABLE_INPUT_WRONG == 17, "16 and 17");
+}
+
+/* The stamp is the second byte, of any bytes that have one, and no other byte. */
+static void stamps(void)
+{
+    uint8_t bytes[4] = {2, 4, 0, 9}, sent[4] = {2, 61, 0, 9}, one[2] = {2, 4};
+
+    captable_stamp(bytes, sizeof bytes, 61);
+    check(memcmp(bytes, sent, sizeof sent) == 0, "the actor is stamped");
+    captable_stamp(one, 1, 61);
+    check(one[0] == 2 && one[1] == 4, "one byte has no actor");
+    captable_stamp(one, 0, 61);
+    captable_stamp(NULL, 0, 61);
+    check(one[0] == 2 && one[1] == 4, "no bytes have no actor");
+    captable_stamp(one, 2, 61);
+    check(one[0] == 2 && one[1] == 61, "two bytes have an actor");
+}
+
+/* Slot 3 of object 7 is the 59th capability after the first, and no other one changes. */
+static void slots(void)
+{
+    static captable_table table, other;
+    captable_capability held;
+    size_t k;
+
+    captable_slot_at(&table, 7, 3)->target = 5;
+    captable_slot_at(&table, 7, 3)->rights = CAPTABLE_RD | CAPTABLE_TX;
+    other.slots[59].target = 5;
+    other.slots[59].rights = 9;
+    check(memcmp(&table, &other, sizeof table) == 0, "a slot is put where the table has it");
+    held = captable_slot(&table, 7, 3);
+    check(held.target == 5 && held.rights == 9, "a slot is got as it was put");
+    check(captable_slot_at(&table, 63, 7) == &table.slots[511], "the last slot");
+    for (k = 0; k < 512; k++)
+        if (k != 59)
+            check(captable_slot(&table, k / 8, k % 8).rights == 0, "the other slots are empty");
+}
+
+/* The longest request, byte by byte in document 01's order, and lists that are too long. */
+static void requests(void)
+{
+    static const uint8_t pairs[10] = {0, 7, 1, 6, 2, 5, 3, 4, 4, 3};
+    static const uint8_t longest[CAPTABLE_REQUEST_BYTES] = {7, 5, 10, 1, 0, 0, 0, 0, 0, 0, 8, 0,
+                                                            7, 4, 0,  7, 1, 6, 2, 5, 3, 4};
+    uint8_t out[CAPTABLE_REQUEST_BYTES];
+
+    check(captable_put_allocate(out, 5, 10, CAPTABLE_ACTIVE, 2048, 7, pairs, 4) == 22, "the longest request");
+    check(memcmp(out, longest, sizeof longest) == 0, "an allocate's bytes");
+    check(captable_put_allocate(out, 5, 10, CAPTABLE_ACTIVE, 0, 7, pairs, 5) == 0, "five pairs are too many");
+    check(captable_put_send(out, 5, 0, 1, pairs, 5, CAPTABLE_NO_REPLY) == 0, "five pairs are too many");
+    check(captable_put_send(out, 5, 0, 1, pairs, 4, CAPTABLE_NO_REPLY) == 17, "a send with four pairs");
+}
+
+int main(void)
+{
+    check(CAPTABLE_VERSION == 0 * 65536 + 1 * 256 + 0, "the header's version is 0.1.0");
+    check(captable_version() == CAPTABLE_VERSION, "the archive has the header's version");
+    reasons();
+    numbers();
+    stamps();
+    slots();
+    requests();
+    if (!wrong)
+        printf("the header's own functions do what they say\n");
+    return wrong;
+}
