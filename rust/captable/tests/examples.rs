@@ -86,6 +86,10 @@ fn potential_access_of_example_11() {
         assert!(relation.has(5, right, 0));
         assert_eq!(relation.has(2, right, 1), right == Right::Wk);
         assert!(!relation.has(1, right, 2));
+        // 5 writes to 1, which 0 reads: by the rules each of the three has all rights over each.
+        for holder in [0, 1, 5] {
+            assert_eq!(relation.over(holder, right), set(&[0, 1, 5]));
+        }
     }
     assert_eq!(relation.over(10, Right::Rd), set(&[]));
 }
