@@ -77,8 +77,10 @@
 //!
 //! `libcaptable.a` from the folder that the variable `CAPTABLE_LIB_DIR` names by an absolute path, or else
 //! from the repository's `target/staticlib`. The archive is code for x86-64 with ELF objects and System V
-//! calls; the build stops with a sentence where the target is another or the archive is missing. What was
-//! linked says its [`version`], which is to be [`VERSION`].
+//! calls; the build stops with a sentence where the target is another or the archive is missing. That code
+//! uses the SSE registers: with no system below it, the firmware has to enable them, and an interrupt
+//! handler that steps a table has to save them. What was linked says its [`version`], which is to be
+//! [`VERSION`].
 #![no_std]
 #![deny(missing_docs)]
 
