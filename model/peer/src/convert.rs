@@ -1,6 +1,6 @@
 //! A table as the archive has it, and the same table as the model has it.
 
-use captable::raw;
+use captable::{raw, Set};
 use yavrinks_model::table::{Capability, Record, Table, SLOTS};
 
 /// The model's table as it crosses to the archive.
@@ -14,7 +14,7 @@ pub fn to_raw(table: &Table) -> raw::Table {
             status: record.status,
             kind: record.kind,
             word: record.word,
-            stock: record.stock,
+            stock: Set::from_bits(record.stock),
         };
         for (j, slot) in record.slots.iter().enumerate() {
             made.slots[n * SLOTS + j] = raw::Capability {
@@ -39,7 +39,7 @@ pub fn to_model(table: &raw::Table) -> Table {
             status: record.status,
             kind: record.kind,
             word: record.word,
-            stock: record.stock,
+            stock: record.stock.bits(),
             slots,
         };
     }

@@ -24,7 +24,7 @@ fn there_and_back_is_the_same_table() {
 fn every_field_of_table_k_has_its_place() {
     let raw = to_raw(&Table::k());
     assert_eq!((raw.records[5].status, raw.records[5].kind), (1, 1));
-    assert_eq!(raw.records[5].stock, 1 << 10 | 1 << 11);
+    assert_eq!(raw.records[5].stock.bits(), 1 << 10 | 1 << 11);
     let slot = raw.slots[2 * 8 + 1];
     assert_eq!((slot.target, slot.rights), (6, 4));
 }

@@ -1,5 +1,6 @@
 //! The command `program`: runs a built program `confine` on many inputs, each as a process of its
-//! own, and compares what it prints with the test vectors and with the model.
+//! own, and compares what it prints with the test vectors and with the model. With a verb the program is
+//! one like `yavrinks confine`, whose status has to tell the answer too.
 
 use std::fs;
 use std::io::{self, Write};
@@ -24,20 +25,55 @@ struct Case {
     expected: Vec<u8>,
 }
 
+/// The program, by its path and perhaps a verb.
+struct Program<'a> {
+    path: &'a str,
+    verb: Option<&'a str>,
+}
+
+impl Program<'_> {
+    /// The program as it is started; with this in front if it is to be started by a shell.
+    fn started_by(&self, shell: &[&str]) -> Command {
+        let mut words = shell.iter().copied().chain([self.path]).chain(self.verb);
+        let mut command = Command::new(words.next().unwrap_or(self.path));
+        command.args(words);
+        command
+    }
+
+    /// The status that goes with an output. Without a verb there is but one: a program of the proved
+    /// language has no other.
+    fn status(&self, expected: &[u8]) -> i32 {
+        match (self.verb, expected) {
+            (None, _) => 0,
+            (Some(_), b"") => 2,
+            (Some(_), printed) => i32::from(!printed.starts_with(b"accepted\n")),
+        }
+    }
+
+    /// What must happen on a closed standard input. The proved program cannot tell it from an empty one.
+    fn closed(&self) -> Case {
+        let mut case = model_case("a closed standard input", Vec::new());
+        if self.verb.is_some() {
+            case.expected = Vec::new();
+        }
+        case
+    }
+}
+
 /// Runs the command. The exit status is 0 if every output is as expected and 1 if not.
-pub fn command(program: &str) -> ExitCode {
-    match compare(program) {
+pub fn command(path: &str, verb: Option<&str>) -> ExitCode {
+    match compare(&Program { path, verb }) {
         Ok(0) => ExitCode::SUCCESS,
         Ok(_) => ExitCode::FAILURE,
         Err(error) => {
-            eprintln!("yavrinks-tools program: {program}: {error}");
+            eprintln!("yavrinks-tools program: {path}: {error}");
             ExitCode::FAILURE
         }
     }
 }
 
 /// Prints a line for each group of inputs; gives the number of differences.
-fn compare(program: &str) -> io::Result<usize> {
+fn compare(program: &Program<'_>) -> io::Result<usize> {
     let groups = [
         ("test vectors", vector_cases()?),
         ("random inputs", random_cases(&mut Rng::new(0xC0F1E))),
@@ -49,17 +85,15 @@ fn compare(program: &str) -> io::Result<usize> {
     let mut progress = Progress::new("program: inputs", all);
     for (name, cases) in &groups {
         for case in cases {
-            let printed = run(Command::new(program), &case.input)?;
-            differences += report(case, &printed)?;
+            let printed = run(program.started_by(&[]), &case.input)?;
+            differences += report(program, case, &printed)?;
             done += 1;
             progress.at(done);
         }
         writeln!(output, "{name:14} {:4} inputs", cases.len())?;
     }
-    let case = model_case("a closed standard input", Vec::new());
-    let mut shell = Command::new("sh");
-    shell.args(["-c", "exec \"$0\" <&-", program]);
-    differences += report(&case, &run(shell, &[])?)?;
+    let shell = program.started_by(&["sh", "-c", "exec \"$0\" \"$@\" <&-"]);
+    differences += report(program, &program.closed(), &run(shell, &[])?)?;
     writeln!(output, "{:14} {:4} input", "closed input", 1)?;
     writeln!(output, "{differences} differences")?;
     Ok(differences)
@@ -69,6 +103,7 @@ fn run(mut command: Command, input: &[u8]) -> io::Result<Output> {
     let mut child = command
         .stdin(Stdio::piped())
         .stdout(Stdio::piped())
+        .stderr(Stdio::piped())
         .spawn()?;
     let pipe = child.stdin.take();
     std::thread::scope(|scope| {
@@ -78,18 +113,20 @@ fn run(mut command: Command, input: &[u8]) -> io::Result<Output> {
     })
 }
 
-/// 1, with both texts printed, if the program printed something else or failed.
-fn report(case: &Case, output: &Output) -> io::Result<usize> {
-    if output.status.success() && output.stdout == case.expected {
+/// 1, with both texts printed, if the program printed something else or ended otherwise.
+fn report(program: &Program<'_>, case: &Case, output: &Output) -> io::Result<usize> {
+    let wanted = program.status(&case.expected);
+    if output.status.code() == Some(wanted) && output.stdout == case.expected {
         return Ok(0);
     }
     let printed = String::from_utf8_lossy(&output.stdout);
     let expected = String::from_utf8_lossy(&case.expected);
+    let said = String::from_utf8_lossy(&output.stderr);
     let status = output.status;
     let name = &case.name;
     writeln!(
         io::stdout(),
-        "{name}: expected {expected:?}, printed {printed:?}, {status}"
+        "{name}: expected {expected:?} and status {wanted}, printed {printed:?}, {status}; {said:?} on standard error"
     )?;
     Ok(1)
 }

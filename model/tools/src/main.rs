@@ -19,9 +19,11 @@ Commands:
             check the definitions of the repository against the model, with the
             toolchain's command `rt`; exit status 1 if an answer differs or
             could not be checked
-  program PATH
+  program PATH [VERB]
             run the built program `confine` at PATH on the test vectors, on random
-            inputs and on inputs of odd lengths, and compare what it prints
+            inputs and on inputs of odd lengths, and compare what it prints; with
+            VERB run `PATH VERB`, whose status must be 0 for accepted, 1 for refused
+            and 2 where standard input is closed
   two-runs  try demand 3 on random pairs of runs, then on models with a broken
             rule: [--seed N] [--pairs N] [--broken NAME]
   vectors DIR
@@ -37,7 +39,8 @@ fn main() -> ExitCode {
         [] | ["help" | "--help" | "-h"] => print(HELP),
         ["confine"] => run_confine(),
         ["definitions", rest @ ..] => return run_definitions(rest),
-        ["program", path] => return yavrinks_tools::built_program::command(path),
+        ["program", path] => return yavrinks_tools::built_program::command(path, None),
+        ["program", path, verb] => return yavrinks_tools::built_program::command(path, Some(verb)),
         ["two-runs", options @ ..] => return yavrinks_tools::two_runs::command(options),
         ["vectors", folder] => yavrinks_tools::vectors::write(folder.as_ref()),
         _ => {

@@ -59,3 +59,35 @@ fn wrong_options_fail() {
     let text = String::from_utf8(output.stderr).expect("text");
     assert!(text.contains("no repository: /nowhere/crates.txt"));
 }
+
+/// The model's own `confine` ends with 0 on a refusal, as the proved program does: fit without a verb
+/// only. With its verb left out it is no `confine` at all, but prints a help.
+#[test]
+fn a_program_that_ends_with_0_on_a_refusal_is_found() {
+    let own = env!("CARGO_BIN_EXE_yavrinks-tools");
+    let output = run(&["program", own, "confine"], &[]);
+    assert_eq!(output.status.code(), Some(1));
+    let text = String::from_utf8(output.stdout).expect("text");
+    assert!(text.contains(
+        "expected \"refused 12\\n\" and status 1, printed \"refused 12\\n\", exit status: 0"
+    ));
+    assert!(!text.contains("expected \"accepted"), "{text}");
+    let output = run(&["program", own], &[]);
+    assert_eq!(output.status.code(), Some(1));
+}
+
+/// The same with the status that goes with each answer, by a script.
+#[test]
+fn a_program_whose_status_tells_the_answer_passes() {
+    let script = PathBuf::from(env!("CARGO_TARGET_TMPDIR")).join("with statuses");
+    let text = format!(
+        "true 3<&0 || exit 2\nprinted=$('{}' confine)\necho \"$printed\"\ncase $printed in accepted*) ;; *) exit 1 ;; esac\n",
+        env!("CARGO_BIN_EXE_yavrinks-tools")
+    );
+    fs::write(&script, text).expect("a script");
+    let script = script.to_str().expect("text");
+    let output = run(&["program", "sh", script], &[]);
+    let text = String::from_utf8(output.stdout).expect("text");
+    assert!(text.ends_with("\n0 differences\n"), "{text}");
+    assert!(output.status.success());
+}

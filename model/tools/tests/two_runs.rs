@@ -25,7 +25,7 @@ const LIMIT: u64 = 20_000;
 
 #[test]
 fn the_model_keeps_the_claim() {
-    let trial = try_pairs(&Rules::DOCUMENT, 1, 600);
+    let trial = try_pairs("document 01", &Rules::DOCUMENT, 1, 600);
     assert!(trial.found.is_none(), "{:?}", trial.found);
     assert_eq!(trial.pairs, 600);
     assert!(trial.lengths_differ > 400 && trial.starts_differ > 400);
@@ -47,7 +47,9 @@ fn the_model_keeps_the_claim() {
 #[test]
 fn small_cases_still_break_the_claim_and_only_under_the_broken_rule() {
     for broken in &BROKEN {
-        let found = try_pairs(&broken.rules, 1, LIMIT).found.expect("caught");
+        let found = try_pairs(broken.name, &broken.rules, 1, LIMIT)
+            .found
+            .expect("caught");
         let small = shrink(&broken.rules, &found);
         assert!(small.moves.len() <= found.moves.len());
         assert!(small.moves.len() <= 6, "{}: {small:?}", broken.name);

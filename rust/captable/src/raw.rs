@@ -2,7 +2,9 @@
 //!
 //! The safe calls are methods of [`Table`](crate::Table). These are here for whoever needs the exact
 //! boundary: a slice goes as its pointer and then its length, and every answer is document 01's number,
-//! 0 for done.
+//! 0 for done. The structs are `Copy`, as C's are, since the calls take them by value.
+
+use crate::Set;
 
 /// What a slot holds: a target, and rights over it (1 rd, 2 wr, 4 wk, 8 tx). All zero is an empty slot.
 #[repr(C)]
@@ -12,6 +14,14 @@ pub struct Capability {
     pub target: u8,
     /// The rights, added up.
     pub rights: u8,
+}
+
+impl Capability {
+    /// What an empty slot holds.
+    pub const EMPTY: Capability = Capability {
+        target: 0,
+        rights: 0,
+    };
 }
 
 /// An object's record.
@@ -24,8 +34,18 @@ pub struct Record {
     pub kind: u8,
     /// The object's word.
     pub word: u32,
-    /// The unborn numbers that the object may make objects of, bit n for number n.
-    pub stock: u64,
+    /// The unborn numbers that the object may make objects of. It crosses as its 64 bits.
+    pub stock: Set,
+}
+
+impl Record {
+    /// The record of a number that no object has yet.
+    pub const UNBORN: Record = Record {
+        status: 0,
+        kind: 0,
+        word: 0,
+        stock: Set::EMPTY,
+    };
 }
 
 /// The table: 64 records, and slot j of object n at n * 8 + j.
@@ -70,12 +90,18 @@ pub struct Finding {
 }
 
 extern "C" {
+    /// The version of these calls: see [`VERSION`](crate::VERSION).
+    pub fn captable_version() -> u32;
     /// 0 for a sound table, 1 for any other.
     pub fn captable_sound(table: Table) -> u8;
     /// One request on the lent table. A refusal leaves the table as it was.
     ///
+    /// The second byte of the request names the actor, whose rights are used: the caller vouches for it.
+    ///
     /// # Safety
-    /// `table` points to a table that nothing else uses during the call, `request` to `length` bytes.
+    /// `table` points to a table that nothing else uses during the call, no other step and no interrupt
+    /// handler either: the table is copied out and back, and what another wrote meanwhile would be undone.
+    /// `request` points to `length` bytes.
     pub fn captable_step(table: *mut Table, request: *const u8, length: usize) -> u8;
     /// One request on a table by value: the reply's number, and the table after it.
     ///

@@ -14,7 +14,8 @@ macro_rules! refusals {
 
         impl $name {
             /// Document 01's number of the cause.
-            pub fn number(self) -> u8 {
+            #[must_use]
+            pub const fn number(self) -> u8 {
                 self as u8
             }
 

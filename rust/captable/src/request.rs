@@ -1,6 +1,9 @@
-//! A request, and its bytes: the code, then document 01's fields in their order.
+//! A request, its bytes (the code, then document 01's fields in their order), and its line for a reader.
 
-use crate::Set;
+use core::fmt;
+
+use crate::pairs::{PairList, MAX_PAIRS};
+use crate::{Set, ACTIVE, PASSIVE};
 
 /// The code of each request.
 mod code {
@@ -14,21 +17,18 @@ mod code {
     pub const DESTROY: u8 = 8;
 }
 
-/// The most pairs that a list may have.
-pub const MAX_PAIRS: usize = 4;
-
 /// The `reply` of a send that asks for no reply slot.
 pub const NO_REPLY: u8 = 8;
 
 /// The bytes of the longest request: an allocate with four pairs.
-pub const REQUEST_BYTES: usize = 22;
-
-/// A pair of a list: the actor's slot, the destination slot.
-pub type Pair = (u8, u8);
+pub const REQUEST_BYTES: usize = 14 + 2 * MAX_PAIRS;
 
 /// A request. Any field may be out of range: the step refuses it.
+///
+/// The actor is who asks, and all that a request may do it may do as the actor. Nothing in the table can
+/// tell whether the actor is right: whoever makes a request vouches for it.
 #[derive(Clone, Copy, Debug, PartialEq, Eq)]
-pub enum Request<'a> {
+pub enum Request {
     /// The actor's word becomes the target's word. Needs rd or wk.
     Read {
         /// The object that asks.
@@ -86,7 +86,7 @@ pub enum Request<'a> {
         /// The target's new word.
         word: u32,
         /// The actor's slots that are copied into the target, in this order.
-        list: &'a [Pair],
+        list: PairList,
         /// The target's slot that gets (actor, tx), or [`NO_REPLY`].
         reply: u8,
     },
@@ -103,7 +103,7 @@ pub enum Request<'a> {
         /// The actor's slot that gets all rights over it.
         i: u8,
         /// The actor's slots that are copied into it, in this order.
-        list: &'a [Pair],
+        list: PairList,
     },
     /// The target becomes dead, and its stock joins the actor's. Needs wr.
     Destroy {
@@ -122,51 +122,44 @@ pub struct RequestBytes {
 }
 
 impl RequestBytes {
-    /// The bytes. They are empty for a list of more than [`MAX_PAIRS`], which the step refuses by 2 like
-    /// any bytes that are no request.
+    /// The bytes.
+    #[must_use]
     pub fn as_slice(&self) -> &[u8] {
         &self.bytes[..self.length]
     }
 
     fn of(fields: &[u8]) -> RequestBytes {
-        let mut made = RequestBytes {
+        let made = RequestBytes {
             bytes: [0; REQUEST_BYTES],
             length: 0,
         };
-        made.put(fields);
-        made
+        made.and(fields)
     }
 
-    fn put(&mut self, fields: &[u8]) {
+    fn and(mut self, fields: &[u8]) -> RequestBytes {
         let next = self.length + fields.len();
         self.bytes[self.length..next].copy_from_slice(fields);
         self.length = next;
+        self
     }
 
-    /// The list and then what follows it. A list that is too long leaves no request at all.
-    fn with_list(mut self, list: &[Pair], after: &[u8]) -> RequestBytes {
-        if list.len() > MAX_PAIRS {
-            self.length = 0;
-            return self;
+    fn and_list(mut self, list: &PairList) -> RequestBytes {
+        self = self.and(&[list.as_slice().len() as u8]);
+        for &(from, to) in list.as_slice() {
+            self = self.and(&[from, to]);
         }
-        self.put(&[list.len() as u8]);
-        for &(from, to) in list {
-            self.put(&[from, to]);
-        }
-        self.put(after);
         self
     }
 }
 
-impl Request<'_> {
+impl Request {
     /// The request's bytes.
+    #[must_use]
     pub fn to_bytes(&self) -> RequestBytes {
         match *self {
             Request::Read { actor, t } => RequestBytes::of(&[code::READ, actor, t]),
             Request::Write { actor, t, word } => {
-                let mut made = RequestBytes::of(&[code::WRITE, actor, t]);
-                made.put(&word.to_be_bytes());
-                made
+                RequestBytes::of(&[code::WRITE, actor, t]).and(&word.to_be_bytes())
             }
             Request::Fetch { actor, t, i, j } => RequestBytes::of(&[code::FETCH, actor, t, i, j]),
             Request::Store { actor, t, i, j } => RequestBytes::of(&[code::STORE, actor, t, i, j]),
@@ -177,10 +170,100 @@ impl Request<'_> {
                 word,
                 list,
                 reply,
+            } => RequestBytes::of(&[code::SEND, actor, t])
+                .and(&word.to_be_bytes())
+                .and_list(&list)
+                .and(&[reply]),
+            Request::Allocate {
+                actor,
+                n,
+                kind,
+                part,
+                i,
+                list,
+            } => RequestBytes::of(&[code::ALLOCATE, actor, n, kind])
+                .and(&part.bits().to_be_bytes())
+                .and(&[i])
+                .and_list(&list),
+            Request::Destroy { actor, t } => RequestBytes::of(&[code::DESTROY, actor, t]),
+        }
+    }
+
+    /// The request that these bytes are, and none for any bytes that are no request: a code that is not 1
+    /// to 8, a byte too few or too many, a list above four pairs. The step refuses those by 2.
+    ///
+    /// Fields may be out of range, as in any request. The actor is what the bytes say: see
+    /// [`Table::step_as`](crate::Table::step_as) for bytes that someone else wrote.
+    #[must_use]
+    pub fn from_bytes(bytes: &[u8]) -> Option<Request> {
+        Some(match *bytes {
+            [code::READ, actor, t] => Request::Read { actor, t },
+            [code::WRITE, actor, t, a, b, c, d] => Request::Write {
+                actor,
+                t,
+                word: u32::from_be_bytes([a, b, c, d]),
+            },
+            [code::FETCH, actor, t, i, j] => Request::Fetch { actor, t, i, j },
+            [code::STORE, actor, t, i, j] => Request::Store { actor, t, i, j },
+            [code::REVOKE, actor, t, j] => Request::Revoke { actor, t, j },
+            [code::SEND, actor, t, a, b, c, d, count, ref pairs @ .., reply] => Request::Send {
+                actor,
+                t,
+                word: u32::from_be_bytes([a, b, c, d]),
+                list: PairList::from_bytes(count, pairs)?,
+                reply,
+            },
+            [code::ALLOCATE, actor, n, kind, a, b, c, d, e, f, g, h, i, count, ref pairs @ ..] => {
+                Request::Allocate {
+                    actor,
+                    n,
+                    kind,
+                    part: Set::from_bits(u64::from_be_bytes([a, b, c, d, e, f, g, h])),
+                    i,
+                    list: PairList::from_bytes(count, pairs)?,
+                }
+            }
+            [code::DESTROY, actor, t] => Request::Destroy { actor, t },
+            _ => return None,
+        })
+    }
+}
+
+/// One line: who asks, what, and through which slot, as `4 writes 7 through slot 0`.
+impl fmt::Display for Request {
+    fn fmt(&self, out: &mut fmt::Formatter<'_>) -> fmt::Result {
+        match *self {
+            Request::Read { actor, t } => write!(out, "{actor} reads through slot {t}"),
+            Request::Write { actor, t, word } => {
+                write!(out, "{actor} writes {word} through slot {t}")
+            }
+            Request::Fetch { actor, t, i, j } => write!(
+                out,
+                "{actor} fetches the target's slot {i} through slot {t} into its own slot {j}"
+            ),
+            Request::Store { actor, t, i, j } => write!(
+                out,
+                "{actor} stores its own slot {i} through slot {t} into the target's slot {j}"
+            ),
+            Request::Revoke { actor, t, j } => {
+                write!(
+                    out,
+                    "{actor} revokes the target's slot {j} through slot {t}"
+                )
+            }
+            Request::Send {
+                actor,
+                t,
+                word,
+                list,
+                reply,
             } => {
-                let mut made = RequestBytes::of(&[code::SEND, actor, t]);
-                made.put(&word.to_be_bytes());
-                made.with_list(list, &[reply])
+                write!(out, "{actor} sends {word} through slot {t}")?;
+                write_copies(out, &list)?;
+                match reply {
+                    NO_REPLY => write!(out, ", no reply slot"),
+                    slot => write!(out, ", reply slot {slot}"),
+                }
             }
             Request::Allocate {
                 actor,
@@ -190,12 +273,25 @@ impl Request<'_> {
                 i,
                 list,
             } => {
-                let mut made = RequestBytes::of(&[code::ALLOCATE, actor, n, kind]);
-                made.put(&part.to_be_bytes());
-                made.put(&[i]);
-                made.with_list(list, &[])
+                write!(out, "{actor} allocates {n}, ")?;
+                match kind {
+                    PASSIVE => write!(out, "passive")?,
+                    ACTIVE => write!(out, "active")?,
+                    other => write!(out, "kind {other}")?,
+                }
+                write!(out, ", stock {part}, held in slot {i}")?;
+                write_copies(out, &list)
             }
-            Request::Destroy { actor, t } => RequestBytes::of(&[code::DESTROY, actor, t]),
+            Request::Destroy { actor, t } => write!(out, "{actor} destroys through slot {t}"),
         }
     }
+}
+
+/// The pairs of a list, if it has any.
+fn write_copies(out: &mut fmt::Formatter<'_>, list: &PairList) -> fmt::Result {
+    for (place, (from, to)) in list.as_slice().iter().enumerate() {
+        let before = if place == 0 { ", copies slot" } else { "," };
+        write!(out, "{before} {from} to {to}")?;
+    }
+    Ok(())
 }

@@ -3,8 +3,8 @@
 mod common;
 
 use captable::{
-    AccessRefusal, ReadRefusal, Request, Right, StepRefusal, Table, TestRefusal, WriteRefusal,
-    ACTIVE, ALIVE, IMAGE_BYTES, WK, WR,
+    AccessRefusal, PairList, ReadRefusal, Request, Right, StepRefusal, Table, TestRefusal,
+    WriteRefusal, ACTIVE, ALIVE, IMAGE_BYTES, WK, WR,
 };
 use common::{cap, k, set};
 
@@ -13,7 +13,7 @@ fn the_test_of_examples_1_to_5() {
     assert_eq!(k().test(set(&[5]), &[cap(1, WR)]), Ok(set(&[0, 1, 2])));
     let mut weak = k();
     *weak.slot_mut(5, 0) = cap(1, WK);
-    assert_eq!(weak.test(set(&[5]), &[cap(1, WK)]), Ok(0));
+    assert_eq!(weak.test(set(&[5]), &[cap(1, WK)]), Ok(set(&[])));
     assert_eq!(k().test(set(&[5]), &[]), Err(TestRefusal::RightUnlisted));
     let mut held = k();
     *held.slot_mut(0, 1) = cap(5, WK);
@@ -21,7 +21,7 @@ fn the_test_of_examples_1_to_5() {
         held.test(set(&[5]), &[cap(1, WR)]),
         Err(TestRefusal::MemberHeld)
     );
-    assert_eq!(k().test(0, &[]), Err(TestRefusal::MembersInvalid));
+    assert_eq!(k().test(set(&[]), &[]), Err(TestRefusal::MembersInvalid));
     assert_eq!(k().test(set(&[10]), &[]), Err(TestRefusal::MembersInvalid));
 }
 
@@ -34,12 +34,12 @@ fn allocates_of_examples_6_and_7() {
         kind: ACTIVE,
         part: set(&[11]),
         i: 7,
-        list: &[],
+        list: PairList::EMPTY,
     };
     assert_eq!(table.step(&ask(10)), Ok(()));
     assert_eq!(table.record(10).status, ALIVE);
     assert_eq!(table.record(10).stock, set(&[11]));
-    assert_eq!(table.record(5).stock, 0);
+    assert_eq!(table.record(5).stock, set(&[]));
     assert_eq!(*table.slot(5, 7), cap(10, 15));
     assert_eq!(k().step(&ask(12)), Err(StepRefusal::NotInStock));
 }
@@ -70,7 +70,7 @@ fn writes_and_refusals_of_examples_9_and_10() {
     };
     assert_eq!(table.step(&write(4)), Ok(()));
     assert_eq!(table.record(3).word, 7);
-    let before = table;
+    let before = table.clone();
     assert_eq!(table.step(&write(2)), Err(StepRefusal::RightAbsent));
     let read = |actor, t| Request::Read { actor, t };
     assert_eq!(table.step(&read(1, 8)), Err(StepRefusal::FieldInvalid));
@@ -86,8 +86,12 @@ fn potential_access_of_example_11() {
         assert!(relation.has(5, right, 0));
         assert_eq!(relation.has(2, right, 1), right == Right::Wk);
         assert!(!relation.has(1, right, 2));
+        // 5 writes to 1, which 0 reads: by the rules each of the three has all rights over each.
+        for holder in [0, 1, 5] {
+            assert_eq!(relation.over(holder, right), set(&[0, 1, 5]));
+        }
     }
-    assert_eq!(relation.over(10, Right::Rd), 0);
+    assert_eq!(relation.over(10, Right::Rd), set(&[]));
 }
 
 #[test]
@@ -131,7 +135,7 @@ fn buffers_are_filled_or_left() {
 fn an_unsound_table_is_refused_by_every_call() {
     let mut unsound = k();
     unsound.record_mut(20).word = 1; // an unborn record with a word
-    let before = unsound;
+    let before = unsound.clone();
     assert!(!unsound.is_sound());
     let read = Request::Read { actor: 0, t: 0 };
     assert_eq!(unsound.step(&read), Err(StepRefusal::TableUnsound));

@@ -4,7 +4,8 @@
 mod common;
 
 use captable::raw::{
-    captable_confine, captable_read, captable_step, captable_step_by_value, captable_test, captable_write,
+    captable_confine, captable_read, captable_step, captable_step_by_value, captable_test,
+    captable_write,
 };
 use captable::{Table, WR};
 use common::{k, set};
@@ -37,7 +38,7 @@ fn no_bytes_may_come_with_a_null_pointer() {
         assert_eq!(captable_step(table.as_raw_mut(), null(), 0), 2);
         assert_eq!(captable_step_by_value(*k().as_raw(), null(), 0).number, 2);
         assert_eq!(
-            captable_test(*k().as_raw(), set(&[5]), null(), 0).number,
+            captable_test(*k().as_raw(), set(&[5]).bits(), null(), 0).number,
             12
         );
         let refused = captable_read(null(), 0);
@@ -56,7 +57,7 @@ fn no_bytes_may_come_with_a_null_pointer() {
 #[test]
 fn example_1_is_printed() {
     let mut input = k().to_image().expect("K is sound").to_vec();
-    input.extend(set(&[5]).to_be_bytes());
+    input.extend(set(&[5]).bits().to_be_bytes());
     input.extend([1, 1, WR]);
     let mut printed = [0xaa; 256];
     // SAFETY: the input and the buffer are this test's own.

@@ -2,12 +2,12 @@
 
 mod common;
 
-use captable::{Request, StepRefusal, ACTIVE, DEAD, NO_REPLY, RD, TX, WR};
+use captable::{PairList, Request, Set, StepRefusal, ACTIVE, DEAD, NO_REPLY, RD, TX, WR};
 use common::{cap, k, set};
 
 #[test]
 fn the_bytes_are_the_fields_in_order() {
-    let bytes = |request: Request<'_>| request.to_bytes().as_slice().to_vec();
+    let bytes = |request: Request| request.to_bytes().as_slice().to_vec();
     assert_eq!(bytes(Request::Read { actor: 9, t: 2 }), [1, 9, 2]);
     let word = 0x0102_0304;
     assert_eq!(
@@ -26,7 +26,7 @@ fn the_bytes_are_the_fields_in_order() {
         actor,
         t,
         word,
-        list: &[(1, 2), (3, 4)],
+        list: [(1, 2), (3, 4)].into(),
         reply: 7,
     };
     assert_eq!(bytes(send), [6, 9, 2, 1, 2, 3, 4, 2, 1, 2, 3, 4, 7]);
@@ -34,9 +34,9 @@ fn the_bytes_are_the_fields_in_order() {
         actor,
         n: 40,
         kind: 1,
-        part: 0x0102_0304_0506_0708,
+        part: Set::from_bits(0x0102_0304_0506_0708),
         i,
-        list: &[(3, 4)],
+        list: [(3, 4)].into(),
     };
     assert_eq!(
         bytes(allocate),
@@ -48,16 +48,8 @@ fn the_bytes_are_the_fields_in_order() {
 #[test]
 fn a_list_of_five_pairs_is_refused() {
     let mut table = k();
-    let list = [(0, 0); 5];
-    let allocate = Request::Allocate {
-        actor: 5,
-        n: 10,
-        kind: ACTIVE,
-        part: 0,
-        i: 7,
-        list: &list,
-    };
-    assert_eq!(table.step(&allocate), Err(StepRefusal::FieldInvalid));
+    assert!(PairList::try_from(&[(0, 0); 4][..]).is_ok());
+    assert!(PairList::try_from(&[(0, 0); 5][..]).is_err());
     let mut bytes = vec![7, 5, 10, 1, 0, 0, 0, 0, 0, 0, 0, 0, 7, 5];
     bytes.extend([0; 10]);
     assert_eq!(table.step_bytes(&bytes), Err(StepRefusal::FieldInvalid));
@@ -89,12 +81,12 @@ fn each_refusal_has_its_number_and_leaves_the_table() {
     *table.slot_mut(5, 1) = cap(3, TX);
     *table.slot_mut(5, 2) = cap(5, WR);
     *table.slot_mut(5, 3) = cap(2, RD);
-    let before = table;
+    let before = table.clone();
     let send = Request::Send {
         actor: 5,
         t: 1,
         word: 1,
-        list: &[],
+        list: PairList::EMPTY,
         reply: NO_REPLY,
     };
     let allocate = Request::Allocate {
@@ -103,7 +95,7 @@ fn each_refusal_has_its_number_and_leaves_the_table() {
         kind: ACTIVE,
         part: set(&[10]),
         i: 0,
-        list: &[],
+        list: PairList::EMPTY,
     };
     for (request, number) in [
         (Request::Read { actor: 64, t: 0 }, 2),
@@ -139,7 +131,7 @@ fn a_send_copies_pairs_and_leaves_a_reply_slot() {
         actor: 5,
         t: 1,
         word: 77,
-        list: &[(0, 6), (1, 6), (0, 5)],
+        list: [(0, 6), (1, 6), (0, 5)].into(),
         reply: 4,
     };
     assert_eq!(table.step(&send), Ok(()));

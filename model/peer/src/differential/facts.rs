@@ -101,7 +101,10 @@ fn write_table(out: &mut fmt::Formatter<'_>, table: &raw::Table) -> fmt::Result 
         write!(
             out,
             "    {n}: status {}, kind {}, word {:#x}, stock {:#x}",
-            record.status, record.kind, record.word, record.stock
+            record.status,
+            record.kind,
+            record.word,
+            record.stock.bits()
         )?;
         for (j, slot) in slots.iter().enumerate().filter(|(_, slot)| **slot != empty) {
             write!(out, ", slot {j} ({}, {})", slot.target, slot.rights)?;

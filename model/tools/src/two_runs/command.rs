@@ -78,7 +78,7 @@ fn read_broken(name: &str) -> Result<&'static Broken, String> {
 fn try_all(options: &Options, output: &mut impl Write) -> io::Result<bool> {
     let pairs = options.pairs.unwrap_or(PAIRS);
     writeln!(output, "two runs, seed {}\n", options.seed)?;
-    let trial = try_pairs(&Rules::DOCUMENT, options.seed, pairs);
+    let trial = try_pairs("document 01", &Rules::DOCUMENT, options.seed, pairs);
     write!(output, "{}", trial_text(&trial))?;
     let mut as_it_should_be = true;
     if let Some(case) = &trial.found {
@@ -89,7 +89,7 @@ fn try_all(options: &Options, output: &mut impl Write) -> io::Result<bool> {
     }
     writeln!(output, "\nbroken models, at most {LIMIT} pairs each")?;
     for broken in &BROKEN {
-        let trial = try_pairs(&broken.rules, options.seed, LIMIT);
+        let trial = try_pairs(broken.name, &broken.rules, options.seed, LIMIT);
         let caught = match trial.found {
             Some(_) => format!("caught at pair {}", trial.pairs),
             None => "NOT CAUGHT".to_string(),
@@ -104,7 +104,7 @@ fn try_all(options: &Options, output: &mut impl Write) -> io::Result<bool> {
 fn try_broken(options: &Options, broken: &Broken, output: &mut impl Write) -> io::Result<bool> {
     let pairs = options.pairs.unwrap_or(LIMIT);
     writeln!(output, "{}: {}", broken.name, broken.says)?;
-    let trial = try_pairs(&broken.rules, options.seed, pairs);
+    let trial = try_pairs(broken.name, &broken.rules, options.seed, pairs);
     match &trial.found {
         Some(case) => {
             writeln!(output, "caught at pair {}; made small:", trial.pairs)?;

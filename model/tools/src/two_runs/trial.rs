@@ -33,11 +33,12 @@ pub struct Trial {
     pub found: Option<Case>,
 }
 
-/// Tries pairs of runs until one differs, at most the given number of pairs.
-pub fn try_pairs(rules: &Rules, seed: u64, pairs: u64) -> Trial {
+/// Tries pairs of runs until one differs, at most the given number of pairs. `name` is that of the rules,
+/// for whoever waits.
+pub fn try_pairs(name: &str, rules: &Rules, seed: u64, pairs: u64) -> Trial {
     let mut seeds = Rng::new(seed);
     let mut trial = Trial::default();
-    let mut progress = Progress::new("two-runs: pairs", pairs);
+    let mut progress = Progress::new(format!("two-runs: {name}: pairs"), pairs);
     while trial.pairs < pairs && trial.found.is_none() {
         // Each pair has its own numbers, so that a change in one leaves the others as they were.
         let drawn = draw_pair(rules, &mut Rng::new(seeds.bits()));

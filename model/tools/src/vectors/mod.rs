@@ -15,6 +15,7 @@ use std::fs;
 use std::io;
 use std::path::Path;
 
+use crate::progress::Progress;
 pub use chain::{chain, Chain};
 pub use edges::edges;
 pub use images::{image_cases, write_cases, ImageCase, WriteCase};
@@ -63,19 +64,28 @@ impl Part {
     }
 }
 
-/// All parts, in the order in which the program runs them.
+/// What makes each part, in the order in which the program runs them.
+const MAKERS: [fn() -> Part; 9] = [
+    images::part,
+    images::writes_part,
+    steps::part,
+    chain::part,
+    chain::lent_part,
+    edges::part,
+    verdicts::part,
+    relations::part,
+    links::part,
+];
+
+/// All parts, in that order.
 pub fn parts() -> Vec<Part> {
-    vec![
-        images::part(),
-        images::writes_part(),
-        steps::part(),
-        chain::part(),
-        chain::lent_part(),
-        edges::part(),
-        verdicts::part(),
-        relations::part(),
-        links::part(),
-    ]
+    let mut progress = Progress::new("vectors: parts made", MAKERS.len() as u64);
+    let mut made = Vec::new();
+    for maker in MAKERS {
+        made.push(maker());
+        progress.at(made.len() as u64);
+    }
+    made
 }
 
 /// The whole output of the program.
@@ -89,7 +99,9 @@ pub fn write(crate_folder: &Path) -> io::Result<()> {
     let data = crate_folder.join("data");
     fs::create_dir_all(&data)?;
     for part in &parts {
-        fs::write(data.join(part.file), &part.data)?;
+        let file = data.join(part.file);
+        eprintln!("vectors: {}, {} cases", file.display(), part.answers.len());
+        fs::write(file, &part.data)?;
     }
     fs::write(crate_folder.join("stdout"), output(&parts))
 }

@@ -4,7 +4,7 @@ use captable::{Capability, Set, Table, ACTIVE, ALIVE, RD, WK, WR};
 
 /// The set of some numbers.
 pub fn set(numbers: &[u8]) -> Set {
-    numbers.iter().fold(0, |set, n| set | 1 << n)
+    Set::of(numbers)
 }
 
 /// An entry or a slot's content.

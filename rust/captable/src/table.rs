@@ -1,0 +1,234 @@
+//! The table and its calls.
+
+use crate::raw;
+use crate::request::REQUEST_BYTES;
+use crate::{AccessRefusal, ReadRefusal, StepRefusal, TestRefusal, WriteRefusal};
+use crate::{Capability, Record, Relation, Request, Set};
+use crate::{IMAGE_BYTES, MAX_ENTRIES, OBJECTS, SLOTS};
+
+/// The capability table: 64 records with eight slots each. Any value may be put into it; every call
+/// checks that it is sound first.
+///
+/// There is one table in a case, and it has 2 KB. So a table is no `Copy`: `let mut t = table` moves it,
+/// and a second table, whose steps the first never sees, is made by `clone` alone.
+///
+/// ```compile_fail,E0382
+/// let table = captable::Table::unborn();
+/// let mut second = table;
+/// second.record_mut(0).status = captable::ALIVE;
+/// assert!(table.is_sound()); // the table has moved: no copy was left here to be asked by mistake
+/// ```
+///
+/// ```
+/// let table = captable::Table::unborn();
+/// let mut second = table.clone();
+/// second.record_mut(0).status = captable::ALIVE;
+/// assert!(table.is_sound());
+/// ```
+#[derive(Clone, PartialEq, Eq)]
+pub struct Table(raw::Table);
+
+/// The wholly unborn table.
+impl Default for Table {
+    fn default() -> Table {
+        Table::unborn()
+    }
+}
+
+impl Table {
+    /// The wholly unborn table, which is sound. It can be the first value of a `static`.
+    #[must_use]
+    pub const fn unborn() -> Table {
+        Table(raw::Table {
+            records: [Record::UNBORN; OBJECTS as usize],
+            slots: [Capability::EMPTY; OBJECTS as usize * SLOTS as usize],
+        })
+    }
+
+    /// The table of an image.
+    ///
+    /// # Errors
+    /// 14 for a wrong length, 15 for a wrong version, 1 for a table that is not sound.
+    pub fn from_image(image: &[u8]) -> Result<Table, ReadRefusal> {
+        // SAFETY: the pointer and the length are of one slice.
+        let outcome = unsafe { raw::captable_read(image.as_ptr(), image.len()) };
+        ReadRefusal::check(outcome.number)?;
+        Ok(Table(outcome.table))
+    }
+
+    /// Writes the image into the buffer's first [`IMAGE_BYTES`] bytes. A refusal leaves every byte.
+    ///
+    /// # Errors
+    /// 1 for a table that is not sound, 16 for a buffer that is too short.
+    pub fn write_image(&self, buffer: &mut [u8]) -> Result<(), WriteRefusal> {
+        // SAFETY: the pointer and the length are of one slice, which is borrowed for the call alone.
+        WriteRefusal::check(unsafe {
+            raw::captable_write(self.0, buffer.as_mut_ptr(), buffer.len())
+        })
+    }
+
+    /// The image as an array.
+    ///
+    /// # Errors
+    /// 1 for a table that is not sound.
+    pub fn to_image(&self) -> Result<[u8; IMAGE_BYTES], WriteRefusal> {
+        let mut image = [0; IMAGE_BYTES];
+        self.write_image(&mut image)?;
+        Ok(image)
+    }
+
+    /// Is the table sound?
+    #[must_use]
+    pub fn is_sound(&self) -> bool {
+        // SAFETY: the call takes a value alone.
+        unsafe { raw::captable_sound(self.0) == 0 }
+    }
+
+    /// One request. A refusal leaves the table as it was.
+    ///
+    /// The request's actor is who asks, and the caller vouches for it.
+    ///
+    /// # Errors
+    /// 1 to 9, the first cause in number order.
+    pub fn step(&mut self, request: &Request) -> Result<(), StepRefusal> {
+        self.step_bytes(request.to_bytes().as_slice())
+    }
+
+    /// One request from bytes that someone else wrote, asked by the actor that the caller knows it to be.
+    ///
+    /// The byte that names the actor is overwritten by `actor` in a copy. Bytes too short to have one are
+    /// stepped as they are, and like all bytes that are no request they are refused by 2. A refusal
+    /// leaves the table as it was.
+    ///
+    /// A mailbox that its owner can still write to while this runs is no `&[u8]`: copy it first, byte by
+    /// byte with [`core::ptr::read_volatile`], and hand in the copy.
+    ///
+    /// ```
+    /// # let mut table = captable::Table::unborn();
+    /// # for n in [3, 4, 5] {
+    /// #     table.record_mut(n).status = captable::ALIVE;
+    /// #     table.record_mut(n).kind = captable::ACTIVE;
+    /// # }
+    /// # *table.slot_mut(4, 0) = captable::Capability { target: 3, rights: captable::WR };
+    /// use captable::StepRefusal;
+    ///
+    /// // 4 may write to 3. 5 may not, and claims in its mailbox to be 4.
+    /// let mailbox = [2, 4, 0, 0, 0, 0, 7];
+    /// let running = 5;
+    /// assert_eq!(table.step_as(running, &mailbox), Err(StepRefusal::SlotEmpty));
+    /// assert_eq!(table.record(3).word, 0);
+    /// ```
+    ///
+    /// # Errors
+    /// 1 to 9, the first cause in number order.
+    pub fn step_as(&mut self, actor: u8, mailbox: &[u8]) -> Result<(), StepRefusal> {
+        let mut bytes = [0; REQUEST_BYTES];
+        let Some(request) = bytes.get_mut(..mailbox.len()) else {
+            // Longer than any request is no request, and so are no bytes at all: both get the same number.
+            return self.step_bytes(&[]);
+        };
+        request.copy_from_slice(mailbox);
+        if let Some(place) = request.get_mut(1) {
+            *place = actor;
+        }
+        self.step_bytes(request)
+    }
+
+    /// One request from its bytes: the code, then document 01's fields. Any other bytes are refused by 2.
+    /// A refusal leaves the table as it was.
+    ///
+    /// The second byte names the actor, and whoever wrote it decided whose rights are used. For bytes that
+    /// a routine may have written this is the wrong call: it could speak as any object. Use
+    /// [`step_as`](Table::step_as).
+    ///
+    /// # Errors
+    /// 1 to 9, the first cause in number order.
+    pub fn step_bytes(&mut self, request: &[u8]) -> Result<(), StepRefusal> {
+        // SAFETY: the table is borrowed for the call alone, and the pointer and the length are of one slice.
+        StepRefusal::check(unsafe {
+            raw::captable_step(&mut self.0, request.as_ptr(), request.len())
+        })
+    }
+
+    /// Who can come to have which right over whom.
+    ///
+    /// # Errors
+    /// 1 for a table that is not sound.
+    pub fn potential_access(&self) -> Result<Relation, AccessRefusal> {
+        // SAFETY: the call takes a value alone.
+        let relation = unsafe { raw::captable_access(self.0) };
+        AccessRefusal::check(relation.number)?;
+        Ok(Relation::new(relation.rows))
+    }
+
+    /// The confinement test: the non-members that the members can ever influence, if they hold no more
+    /// over non-members than the list has.
+    ///
+    /// # Errors
+    /// 1 for a table that is not sound, and 10 to 13, the first cause in number order.
+    pub fn test(&self, members: Set, list: &[Capability]) -> Result<Set, TestRefusal> {
+        let mut bytes = [0; 2 * (MAX_ENTRIES + 1)];
+        // A list that is too long goes as its first nine entries, and is refused like all of it.
+        let sent = list.len().min(MAX_ENTRIES + 1);
+        for (two, entry) in bytes.chunks_exact_mut(2).zip(list) {
+            two.copy_from_slice(&[entry.target, entry.rights]);
+        }
+        // SAFETY: the length is within the array.
+        let finding =
+            unsafe { raw::captable_test(self.0, members.bits(), bytes.as_ptr(), 2 * sent) };
+        TestRefusal::check(finding.number)?;
+        Ok(Set::from_bits(finding.bound))
+    }
+
+    /// The record of object `n`.
+    ///
+    /// # Panics
+    /// If `n` is above 63.
+    #[must_use]
+    pub fn record(&self, n: u8) -> &Record {
+        &self.0.records[usize::from(n)]
+    }
+
+    /// The record of object `n`, to be changed.
+    ///
+    /// # Panics
+    /// If `n` is above 63.
+    pub fn record_mut(&mut self, n: u8) -> &mut Record {
+        &mut self.0.records[usize::from(n)]
+    }
+
+    /// Slot `j` of object `n`.
+    ///
+    /// # Panics
+    /// If `n` is above 63 or `j` above 7.
+    #[must_use]
+    pub fn slot(&self, n: u8, j: u8) -> &Capability {
+        &self.0.slots[place(n, j)]
+    }
+
+    /// The same slot, to be changed.
+    ///
+    /// # Panics
+    /// If `n` is above 63 or `j` above 7.
+    pub fn slot_mut(&mut self, n: u8, j: u8) -> &mut Capability {
+        &mut self.0.slots[place(n, j)]
+    }
+
+    /// The table as it crosses to the archive.
+    #[must_use]
+    pub fn as_raw(&self) -> &raw::Table {
+        &self.0
+    }
+
+    /// A table as it crosses to the archive, to be changed.
+    pub fn as_raw_mut(&mut self) -> &mut raw::Table {
+        &mut self.0
+    }
+}
+
+/// Where slot j of object n stands.
+fn place(n: u8, j: u8) -> usize {
+    assert!(n < OBJECTS, "there is no object {n}");
+    assert!(j < SLOTS, "an object has slots 0 to 7, and no slot {j}");
+    usize::from(n) * usize::from(SLOTS) + usize::from(j)
+}

@@ -1,0 +1,6 @@
+//! The built command, run as a process.
+
+mod confine;
+mod lost;
+mod run;
+mod words;
