@@ -1,4 +1,2 @@
--- The mathematics that the proofs of this crate share, each module over those above it.
-pub mod Pairs
+-- The laws that the proofs cite.
 pub mod Several
-pub mod Weakening

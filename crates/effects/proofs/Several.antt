@@ -8,12 +8,13 @@ use Rattle.mask.specs.Sets.{excluding, lessOf, unionOf}
 use Rattle.table.specs.declared.Table.{Table}
 use Rattle.table.specs.Cells.{emptySlot, recordAt, slotAt, stockAt, putRecord, putSlot}
 use Rattle.requests.specs.declared.PairList.{PairList}
-use Rattle.effects.specs.declared.Row.{Row}
+use Rattle.copies.specs.declared.Row.{Row}
 use Rattle.requests.specs.Asks.{pairsOf}
-use Rattle.effects.specs.Effects.{copyPairs, answerSlot, clearSlots, withWord, withStock, made, died, fullOver, stockLess, sent, allocated, destroyed}
+use Rattle.effects.specs.Effects.{answerSlot, clearSlots, withWord, withStock, made, died, fullOver, stockLess, sent, allocated, destroyed}
+use Rattle.copies.specs.Copies.{copyPairs}
 use Rattle.refusals.specs.Helpers.{PairsFit}
-use Rattle.effects.specs.Helpers.{rowAt, cellOf}
-use Rattle.effects.proofs.Pairs.{copy-row}
+use Rattle.copies.specs.Helpers.{rowAt, cellOf}
+use Rattle.copies.proofs.Pairs.{copy-row}
 
 -- send: with a reply slot, and without
 module _ (t u : Table) (a g word reply : ℕ) (l : PairList) (row : Row) (fit : PairsFit l) (e : row ≡ rowAt t a)

@@ -1,39 +1,18 @@
 -- Document 01, "The eight requests", the column "Effect", read only where no refusal is met. Each effect is puts of
 -- records and slots, one after the other.
 use mathlib.Core.Bool.{true, false}
-use mathlib.Core.List.{List, [], _∷_}
+use mathlib.Core.List.{List}
 use Prim.Native.Nat.{ℕ, zero, suc}
 use lib.Dec.{ltb}
 use Rattle.mask.specs.Sets.{excluding, lessOf, unionOf}
 use Rattle.table.specs.declared.Capability.{Capability}
 use Rattle.table.specs.declared.Record.{Record}
 use Rattle.table.specs.declared.Table.{Table}
-use Rattle.table.specs.Cells.{emptySlot, recordAt, slotAt, stockAt, putRecord, putSlot, hasRd}
+use Rattle.table.specs.Cells.{emptySlot, recordAt, slotAt, stockAt, putRecord, putSlot}
 use Rattle.requests.specs.declared.Pair.{Pair}
-use Rattle.refusals.specs.declared.Need.the-variants.{ReadOrWeak}
 use Rattle.requests.specs.Asks.{Ask, read, write, fetch, store, revoke, send, allocate, destroy, unknown}
-use Rattle.refusals.specs.Refusals.{needMet, targetOf, targetRecord, rightsOf}
-
--- "Weakening gives wk if rd or wk was present; otherwise the copy is empty"
-unfoldable pub weaken : Capability → Capability
-weaken c = elim (needMet ReadOrWeak (c .rights)) [ true ↦ record { target = c .target; rights = 4 } | false ↦ emptySlot ]
-
--- what a fetch through a slot with these rights takes: "weakened if rd is absent"
-unfoldable pub fetched : ℕ → Capability → Capability
-fetched rights c = elim (hasRd rights) [ true ↦ c | false ↦ weaken c ]
-
--- what a destination slot holds after a copy, of what it held and the copy: "Copying an empty slot empties the destination". What
--- it held plays no part; the name is where that rule stands
-unfoldable pub landed : Capability → Capability → Capability
-landed old copy = copy
-
-abbrev pub copyTo : Table → ℕ → ℕ → Capability → Table
-copyTo tb n j c = putSlot tb n j (landed (slotAt tb n j) c)
-
--- "Pairs apply left to right; a later one to the same slot wins." The source is the actor's slots as they were
-unfoldable pub copyPairs : Table → (ℕ → Capability) → ℕ → List Pair → Table
-copyPairs tb source n [] = tb
-copyPairs tb source n (p ∷ ps) = copyPairs (copyTo tb n (p .to) (source (p .from))) source n ps
+use Rattle.refusals.specs.Refusals.{targetOf, targetRecord, rightsOf}
+use Rattle.copies.specs.Copies.{fetched, copyTo, copyPairs}
 
 -- "if reply is 0 to 7, that slot of the target gets (actor, tx); 8 means none"
 unfoldable pub answerSlot : Table → ℕ → ℕ → ℕ → Table

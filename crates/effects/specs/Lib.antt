@@ -1,2 +1,2 @@
+-- What a request does.
 pub mod Effects
-pub mod Helpers

@@ -7,7 +7,8 @@ use Rattle.table.specs.Soundness.{stockSound, soundAt, sound}
 use Rattle.requests.specs.Asks.{read, write}
 use Rattle.refusals.specs.Replies.{number}
 use Rattle.refusals.specs.Refusals.{badSlots, badList, badField, needMet, through, throughSlot, notInStock, laterRows, refusal}
-use Rattle.effects.specs.Effects.{weaken, copyPairs, stockLess, allocated, effect}
+use Rattle.effects.specs.Effects.{stockLess, allocated, effect}
+use Rattle.copies.specs.Copies.{weaken, copyPairs}
 use Rattle.steps.specs.Steps.{after, stepOf}
 use Rattle.examples.specs.TableK.{K, over}
 use Rattle.examples.specs.Statement.{the, making}

@@ -9,7 +9,7 @@ use Rattle.table.specs.Cells.{recordAt, stockAt, putSlot, emptySlot}
 use Rattle.requests.specs.Asks.{Ask, read, write, allocate}
 use Rattle.refusals.specs.Replies.{number}
 use Rattle.refusals.specs.Refusals.{refusal}
-use Rattle.effects.specs.Effects.{weaken}
+use Rattle.copies.specs.Copies.{weaken}
 use Rattle.steps.specs.Steps.{after, stepOf}
 use Rattle.relation.specs.Relation.{Right, rd, wr, wk, tx, Can, tableHolding}
 use Rattle.confinement.specs.Refusals.{verdictNumber}

@@ -23,7 +23,8 @@ use Rattle.refusals.specs.declared.Reply.the-variants.{Done, NotInStock}
 use Rattle.requests.specs.Asks.{allocate}
 use Rattle.refusals.specs.Replies.{isDone}
 use Rattle.refusals.specs.Refusals.{noObject, noSlot, badList, badField, notInStock, laterRows, refusal}
-use Rattle.effects.specs.Effects.{withStock, made, fullOver, stockLess, copyPairs, allocated, effect}
+use Rattle.effects.specs.Effects.{withStock, made, fullOver, stockLess, allocated, effect}
+use Rattle.copies.specs.Copies.{copyPairs}
 use Rattle.isolation.specs.Clean.{Clean, adding}
 use Rattle.isolation.specs.Demand.{AgreeOn}
 use Rattle.isolation.proofs.Invariant.{Isolated, nobody-clean, putSlot-isolated, putRecord-isolated, agree-slot-out, agree-record-out, agree-trans, agree-slot, agree-record}

@@ -13,7 +13,8 @@ use Rattle.table.specs.declared.Table.{Table}
 use Rattle.table.specs.Cells.{emptySlot, recordAt, slotAt, statusAt, putSlot}
 use Rattle.table.proofs.Cells.{Sized, sized-putSlot, slot-same, slot-beside}
 use Rattle.requests.specs.declared.Pair.{Pair}
-use Rattle.effects.specs.Effects.{landed, copyTo, copyPairs, answerSlot, clearSlots}
+use Rattle.effects.specs.Effects.{answerSlot, clearSlots}
+use Rattle.copies.specs.Copies.{landed, copyTo, copyPairs}
 use Rattle.isolation.specs.Clean.{Clean}
 use Rattle.isolation.specs.Demand.{AgreeOn}
 use Rattle.isolation.proofs.Invariant.{Isolated, SlotFits, putSlot-isolated, agree-slot-out, agree-refl, agree-trans, agree-slot}

@@ -16,7 +16,8 @@ use Rattle.refusals.specs.declared.Need.the-variants.{Send}
 use Rattle.requests.specs.Asks.{send}
 use Rattle.refusals.specs.Replies.{isDone}
 use Rattle.refusals.specs.Refusals.{noObject, noSlot, badList, badField, laterRows, refusal, targetOf}
-use Rattle.effects.specs.Effects.{withWord, copyPairs, sent, effect}
+use Rattle.effects.specs.Effects.{withWord, sent, effect}
+use Rattle.copies.specs.Copies.{copyPairs}
 use Rattle.isolation.specs.Clean.{Clean}
 use Rattle.isolation.specs.Demand.{AgreeOn}
 use Rattle.isolation.proofs.Invariant.{Isolated, putRecord-isolated, agree-record-out, agree-trans, agree-record}

@@ -14,7 +14,8 @@ use Rattle.table.proofs.SoundFacts.{Sound}
 use Rattle.refusals.specs.declared.Need.{Need}
 use Rattle.refusals.specs.declared.Need.the-variants.{ReadOrWeak, Write, Send}
 use Rattle.refusals.specs.Refusals.{needMet, targetOf}
-use Rattle.effects.specs.Effects.{weaken, fetched, withWord}
+use Rattle.effects.specs.Effects.{withWord}
+use Rattle.copies.specs.Copies.{weaken, fetched}
 use Rattle.isolation.specs.Clean.{Clean}
 use Rattle.isolation.proofs.Invariant.{wkAlone, Isolated, RecordFits}
 use Rattle.isolation.proofs.Granted.{Granted}

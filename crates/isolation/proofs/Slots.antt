@@ -13,7 +13,8 @@ use Rattle.refusals.specs.declared.Reply.the-variants.{Done}
 use Rattle.requests.specs.Asks.{read, write, fetch, store, revoke}
 use Rattle.refusals.specs.Replies.{isDone}
 use Rattle.refusals.specs.Refusals.{noObject, noSlot, badField, laterRows, refusal, targetOf, rightsOf}
-use Rattle.effects.specs.Effects.{fetched, effect}
+use Rattle.effects.specs.Effects.{effect}
+use Rattle.copies.specs.Copies.{fetched}
 use Rattle.isolation.specs.Clean.{Clean}
 use Rattle.isolation.specs.Demand.{AgreeOn}
 use Rattle.isolation.proofs.Invariant.{Isolated, SlotFits, putSlot-isolated, putRecord-isolated, agree-record-out, agree-slot-out, agree-record, agree-slot}

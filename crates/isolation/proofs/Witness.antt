@@ -27,7 +27,8 @@ use Rattle.bounds.specs.Agreement.{AgreeOutside}
 use Rattle.refusals.specs.declared.Reply.the-variants.{Done}
 use Rattle.requests.specs.Asks.{Ask, read, write, allocate}
 use Rattle.refusals.specs.Refusals as Rows
-use Rattle.effects.specs.Effects.{landed, copyPairs, stockLess, allocated, effect}
+use Rattle.effects.specs.Effects.{stockLess, allocated, effect}
+use Rattle.copies.specs.Copies.{landed, copyPairs}
 use Rattle.steps.specs.Steps.{after}
 use Rattle.isolation.specs.Clean.{Clean, cleanAtStart, cleanAfter, cleanRequests, cleanReplies}
 use Rattle.isolation.specs.Demand.{Alike, BothAccepted, TwoRuns}

@@ -1,8 +1,8 @@
 // The step, document 01: a table and a request in, the reply and the table out. Here are the three requests that change more than one
 // cell, on a table that is sound when it comes here, and the choice by the request.
-use effects::changes::allocated;
-use effects::changes::destroyed;
-use effects::changes::sent;
+use effects::allocated;
+use effects::destroyed;
+use effects::sent;
 use refusals::ALIVE;
 use refusals::Need;
 use refusals::Reply;

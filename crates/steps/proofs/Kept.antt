@@ -16,7 +16,8 @@ use Rattle.requests.specs.declared.Pair.{Pair}
 use Rattle.requests.specs.Asks.{Ask, read, write, fetch, store, revoke, send, allocate, destroy, unknown, InBits}
 use Rattle.refusals.specs.Replies.{isDone}
 use Rattle.refusals.specs.Refusals.{needMet, targetOf, rightsOf, refusal}
-use Rattle.effects.specs.Effects.{weaken, fetched, landed, copyTo, copyPairs, answerSlot, clearSlots, withWord, withStock, made, died, fullOver, stockLess, sent, allocated, destroyed, effect}
+use Rattle.effects.specs.Effects.{answerSlot, clearSlots, withWord, withStock, made, died, fullOver, stockLess, sent, allocated, destroyed, effect}
+use Rattle.copies.specs.Copies.{weaken, fetched, landed, copyTo, copyPairs}
 use Rattle.steps.specs.Steps.{after, runTable}
 use Rattle.steps.proofs.Refused.{refused-keeps, done-effects}
 

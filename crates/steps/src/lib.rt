@@ -1,7 +1,7 @@
 // A step, document 01: a table and a request in, the reply and the table out. Here are the five requests that change one cell, a word
 // or a slot; each is its checks and then its effect, on a table that is sound when it comes here.
-use effects::copies::fetched;
-use effects::copies::landed;
+use copies::fetched;
+use copies::landed;
 use refusals::ALIVE;
 use refusals::Need;
 use refusals::Reply;

@@ -5,7 +5,8 @@ use native.Mathlib.Omega.{arith}
 use borrow.Author.Tests.{not-false}
 use Rattle.table.specs.Cells.{slotAt, putSlot}
 use Rattle.refusals.specs.declared.Reply.the-variants.{Done}
-use Rattle.effects.specs.Effects.{effect, copyTo}
+use Rattle.effects.specs.Effects.{effect}
+use Rattle.copies.specs.Copies.{copyTo}
 use Rattle.refusals.proofs.Rows.{slots-placed}
 use Rattle.steps.proofs.Ways.{through-refused, through-done}
 use Rattle.steps.proofs.Uses.{store-uses}

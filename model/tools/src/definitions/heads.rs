@@ -2,7 +2,7 @@
 //! values of the model.
 
 /// The crates that the statements are about. What these stand on comes with them.
-pub const CRATES: [&str; 3] = ["isolation", "image", "wire"];
+pub const CRATES: [&str; 4] = ["isolation", "image_out", "wire", "entries"];
 
 pub const HEAD: &str = "\
 -- Answers of the model, which the definitions have to give too.
@@ -24,9 +24,10 @@ use Rattle.confinement.specs.declared.Tested.{Tested}
 use Rattle.confinement.specs.Refusals.{verdictNumber}
 use Rattle.confinement.specs.Tests.{testOf}
 use Rattle.image.specs.declared.Loaded.{Loaded}
-use Rattle.image.specs.Images.{readNumber, readOf, writeNumber, writeRefusal, writtenOf}
+use Rattle.image.specs.Images.{readNumber, readOf}
+use Rattle.image_out.specs.Written.{writeNumber, writeRefusal, writtenOf}
 use Rattle.wire.specs.Wires.{askFrom}
-use Rattle.wire.specs.Entries.{entriesIn}
+use Rattle.entries.specs.Entries.{entriesIn}
 use Rattle.isolation.specs.Clean.{cleanAtStart, cleanAtEnd, cleanRequests, cleanReplies}
 
 abbrev object : ℕ → ℕ → ℕ → ℕ → Record

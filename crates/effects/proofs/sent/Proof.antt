@@ -2,8 +2,8 @@
 -- Assumes nothing.
 use Rattle.effects.proofs.Several.{sent-answered, sent-silent}
 use borrow.Author.Needs.{needs}
-use Rattle.effects.proofs.changes.sent.Statement.{statement}
-use Rattle.effects.proofs.changes.sent.Tie as tie
+use Rattle.effects.proofs.sent.Statement.{statement}
+use Rattle.effects.proofs.sent.Tie as tie
 
 row-of-requires : tie.Need-row-of-requires
 row-of-requires c κs = search needs

@@ -5,12 +5,12 @@ use Prim.Native.Nat.{_≤_, _-_}
 use native.Mathlib.Omega.{arith}
 use Rattle.table.specs.Lists.{tabulate}
 use Rattle.requests.specs.Asks.{pairAt}
-use Rattle.effects.specs.Effects.{copyPairs}
-use Rattle.effects.specs.Helpers.{cellOf}
-use Rattle.effects.proofs.Pairs.{copy-none, copy-more, copy-all}
+use Rattle.copies.specs.Copies.{copyPairs}
+use Rattle.copies.specs.Helpers.{cellOf}
+use Rattle.copies.proofs.Pairs.{copy-none, copy-more, copy-all}
 use borrow.Author.Needs.{needs}
-use Rattle.effects.proofs.copies.copy_pairs.Statement.{statement}
-use Rattle.effects.proofs.copies.copy_pairs.Tie as tie
+use Rattle.copies.proofs.copy_pairs.Statement.{statement}
+use Rattle.copies.proofs.copy_pairs.Tie as tie
 
 abbrev Inv-pairs : tie.InvT-pairs
 Inv-pairs n row l m count u₀ x₀ u x = (x ≤ count) × (u ≡ copyPairs u₀ (cellOf row) n (tabulate x (pairAt l)))

@@ -1,8 +1,8 @@
 -- `row_of` is the list of the record's eight slots: eight reads in range, then one law. Assumes nothing.
-use Rattle.effects.proofs.Pairs.{row-is}
+use Rattle.copies.proofs.Pairs.{row-is}
 use borrow.Author.Needs.{needs}
-use Rattle.effects.proofs.copies.row_of.Statement.{statement}
-use Rattle.effects.proofs.copies.row_of.Tie as tie
+use Rattle.copies.proofs.row_of.Statement.{statement}
+use Rattle.copies.proofs.row_of.Tie as tie
 
 mul-t4 : tie.Need-mul-t4
 mul-t4 c = search needs

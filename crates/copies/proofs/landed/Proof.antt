@@ -1,8 +1,8 @@
 -- `landed` is the copy, whatever the slot held: by computing. Assumes nothing.
 use mathlib.Core.Path.{refl}
-use Rattle.effects.specs.Effects.{landed}
-use Rattle.effects.proofs.copies.landed.Statement.{statement}
-use Rattle.effects.proofs.copies.landed.Tie as tie
+use Rattle.copies.specs.Copies.{landed}
+use Rattle.copies.proofs.landed.Statement.{statement}
+use Rattle.copies.proofs.landed.Tie as tie
 
 returns : tie.Need-returns
 unfolding landed

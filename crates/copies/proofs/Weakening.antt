@@ -9,7 +9,7 @@ use Rattle.table.specs.declared.Capability.{Capability}
 use Rattle.table.specs.Cells.{emptySlot, hasRd}
 use Rattle.refusals.specs.declared.Need.the-variants.{ReadOrWeak}
 use Rattle.refusals.specs.Refusals.{needMet}
-use Rattle.effects.specs.Effects.{weaken, fetched}
+use Rattle.copies.specs.Copies.{weaken, fetched}
 
 -- rights exactly wk over the target
 abbrev pub weakOver : ℕ → Capability

@@ -5,7 +5,7 @@ use Rattle.table.specs.declared.Capability.{Capability}
 use Rattle.table.specs.declared.Table.{Table}
 use Rattle.table.specs.Lists.{tabulate}
 use Rattle.table.specs.Cells.{emptySlot, slotAt}
-use Rattle.effects.specs.declared.Row.{Row}
+use Rattle.copies.specs.declared.Row.{Row}
 
 -- the eight slots of object k
 unfoldable pub rowAt : Table → ℕ → Row

@@ -1,8 +1,8 @@
 -- `allocated` is the definition's table: what `row_of`, `without`, `less` and `copy_pairs` ensure, put into one law. Assumes nothing.
 use Rattle.effects.proofs.Several.{allocated-is}
 use borrow.Author.Needs.{needs}
-use Rattle.effects.proofs.changes.allocated.Statement.{statement}
-use Rattle.effects.proofs.changes.allocated.Tie as tie
+use Rattle.effects.proofs.allocated.Statement.{statement}
+use Rattle.effects.proofs.allocated.Tie as tie
 
 row-of-requires : tie.Need-row-of-requires
 row-of-requires c κs = search needs

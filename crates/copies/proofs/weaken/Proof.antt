@@ -1,9 +1,9 @@
 -- `weaken` is the definition's weakening, by its one test. Assumes nothing.
 use mathlib.Core.Path.{refl, sym, _∙_}
-use Rattle.effects.specs.Effects.{weaken}
+use Rattle.copies.specs.Copies.{weaken}
 use borrow.Author.Needs.{needs}
-use Rattle.effects.proofs.copies.weaken.Statement.{statement}
-use Rattle.effects.proofs.copies.weaken.Tie as tie
+use Rattle.copies.proofs.weaken.Statement.{statement}
+use Rattle.copies.proofs.weaken.Tie as tie
 
 need-met-requires : tie.Need-need-met-requires
 need-met-requires c κs = search needs

@@ -16,9 +16,9 @@ use Rattle.requests.specs.declared.Pair.{Pair}
 use Rattle.requests.specs.declared.PairList.{PairList}
 use Rattle.requests.specs.Asks.{pairAt, pairsOf}
 use Rattle.refusals.specs.Helpers.{PairsFit}
-use Rattle.effects.specs.declared.Row.{Row}
-use Rattle.effects.specs.Effects.{landed, copyTo, copyPairs}
-use Rattle.effects.specs.Helpers.{rowAt, cellOf}
+use Rattle.copies.specs.declared.Row.{Row}
+use Rattle.copies.specs.Copies.{landed, copyTo, copyPairs}
+use Rattle.copies.specs.Helpers.{rowAt, cellOf}
 
 -- copying ---------------------------------------------------------------------------------------------
 copy-snoc : (t : Table) (source : ℕ → Capability) (n : ℕ) (ps : List Pair) (p : Pair)

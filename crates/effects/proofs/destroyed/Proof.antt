@@ -6,8 +6,8 @@ use native.Mathlib.Omega.{arith}
 use Rattle.effects.specs.Effects.{clearSlots}
 use Rattle.effects.proofs.Several.{clear-none, clear-more, destroyed-is}
 use borrow.Author.Needs.{needs}
-use Rattle.effects.proofs.changes.destroyed.Statement.{statement}
-use Rattle.effects.proofs.changes.destroyed.Tie as tie
+use Rattle.effects.proofs.destroyed.Statement.{statement}
+use Rattle.effects.proofs.destroyed.Tie as tie
 
 abbrev Inv-slots : tie.InvT-slots
 Inv-slots a g k m u₀ giver taker x₀ u x = (x ≤ 8) × (u ≡ clearSlots u₀ g x)

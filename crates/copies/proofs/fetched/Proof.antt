@@ -1,9 +1,9 @@
 -- `fetched` is what the definition takes, by the test of rd. Assumes nothing.
 use mathlib.Core.Path.{refl, sym, _∙_}
-use Rattle.effects.specs.Effects.{fetched}
+use Rattle.copies.specs.Copies.{fetched}
 use borrow.Author.Needs.{needs}
-use Rattle.effects.proofs.copies.fetched.Statement.{statement}
-use Rattle.effects.proofs.copies.fetched.Tie as tie
+use Rattle.copies.proofs.fetched.Statement.{statement}
+use Rattle.copies.proofs.fetched.Tie as tie
 
 has-requires : tie.Need-has-requires
 has-requires c κs = search needs

@@ -1,5 +1,4 @@
 // What a copied capability becomes, and where it lands, document 01.
-use crate::Row;
 use refusals::Need;
 use requests::PairList;
 use table::Capability;
@@ -7,9 +6,14 @@ use table::Table;
 ghost use mathlib.Core.Path.{_≡_};
 ghost use Prim.Native.Nat.{_<_};
 ghost use Rattle.requests.specs.Asks.{pairsOf};
-ghost use Rattle.effects.specs.Effects.{weaken as weakened, fetched as fetchedBy, landed as landedOn, copyPairs};
+ghost use Rattle.copies.specs.Copies.{weaken as weakened, fetched as fetchedBy, landed as landedOn, copyPairs};
 ghost use Rattle.refusals.specs.Helpers.{PairsFit};
-ghost use Rattle.effects.specs.Helpers.{rowAt, cellOf};
+ghost use Rattle.copies.specs.Helpers.{rowAt, cellOf};
+
+// A record's eight slots.
+pub struct Row {
+    pub cells: [Capability; 8],
+}
 
 // wk if rd or wk was present; otherwise empty.
 pub fn weaken(c: Capability) -> Capability

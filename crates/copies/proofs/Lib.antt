@@ -1,0 +1,3 @@
+-- The laws that the proofs cite, and what weakening leaves.
+pub mod Pairs
+pub mod Weakening

@@ -1,0 +1,31 @@
+-- Document 01, "The eight requests": what a copied capability becomes, and where it lands.
+use mathlib.Core.Bool.{true, false}
+use mathlib.Core.List.{List, [], _∷_}
+use Prim.Native.Nat.{ℕ}
+use Rattle.table.specs.declared.Capability.{Capability}
+use Rattle.table.specs.declared.Table.{Table}
+use Rattle.table.specs.Cells.{emptySlot, slotAt, putSlot, hasRd}
+use Rattle.requests.specs.declared.Pair.{Pair}
+use Rattle.refusals.specs.declared.Need.the-variants.{ReadOrWeak}
+use Rattle.refusals.specs.Refusals.{needMet}
+
+-- "Weakening gives wk if rd or wk was present; otherwise the copy is empty"
+unfoldable pub weaken : Capability → Capability
+weaken c = elim (needMet ReadOrWeak (c .rights)) [ true ↦ record { target = c .target; rights = 4 } | false ↦ emptySlot ]
+
+-- what a fetch through a slot with these rights takes: "weakened if rd is absent"
+unfoldable pub fetched : ℕ → Capability → Capability
+fetched rights c = elim (hasRd rights) [ true ↦ c | false ↦ weaken c ]
+
+-- what a destination slot holds after a copy, of what it held and the copy: "Copying an empty slot empties the destination". What
+-- it held plays no part; the name is where that rule stands
+unfoldable pub landed : Capability → Capability → Capability
+landed old copy = copy
+
+abbrev pub copyTo : Table → ℕ → ℕ → Capability → Table
+copyTo tb n j c = putSlot tb n j (landed (slotAt tb n j) c)
+
+-- "Pairs apply left to right; a later one to the same slot wins." The source is the actor's slots as they were
+unfoldable pub copyPairs : Table → (ℕ → Capability) → ℕ → List Pair → Table
+copyPairs tb source n [] = tb
+copyPairs tb source n (p ∷ ps) = copyPairs (copyTo tb n (p .to) (source (p .from))) source n ps

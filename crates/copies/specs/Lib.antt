@@ -1,0 +1,3 @@
+-- What a copied capability becomes, and where it lands.
+pub mod Copies
+pub mod Helpers
