@@ -56,12 +56,6 @@ pub fn bound(t: Table, members: u64, l: EntryList, outside: u64) -> u64
     let x = lowest(members);
     let nodes = mask::with(outside, x as u8);
     let start = access::start::held_words(slots, nodes, outside);
-    let words = relation::saturate(access::start::with_entries(
-        start,
-        entries,
-        count,
-        outside,
-        x,
-    ));
+    let words = relation::saturate(access::start::with_entries(start, entries, count, outside, x));
     read_off(words, members, x as u8)
 }
