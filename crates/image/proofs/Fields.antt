@@ -13,8 +13,8 @@ use Rattle.table.specs.declared.Record.{Record}
 use Rattle.table.specs.Cells.{emptySlot}
 use Rattle.table.specs.Lists.{tabulate}
 use Rattle.table.proofs.Lists.{getD-tabulate}
-use Rattle.octets.specs.BigEndian.{byteAt, bytesOf, numberOf}
-use Rattle.octets.proofs.BigEndian.{Bytes, length-bytes, number-written, bytes-read}
+use Rattle.octets.specs.BigEndian.{Bytes, byteAt, bytesOf, numberOf}
+use Rattle.octets.proofs.BigEndian.{length-bytes, number-written, bytes-read}
 use Rattle.octets.proofs.Lists.{take-pair}
 use Rattle.octets.proofs.Parts.{beside, bytes-drop, bytes-take, getD-after}
 use Rattle.image.specs.declared.Stored.{Stored}

@@ -11,9 +11,9 @@ use Rattle.table.specs.declared.Table.{Table}
 use Rattle.table.specs.Cells.{unbornTable, putRecord, putSlot, emptySlot}
 use Rattle.table.specs.Lists.{tabulate}
 use Rattle.image.specs.declared.Stored.{Stored}
-use Rattle.octets.specs.BigEndian.{byteAt, numberOf}
+use Rattle.octets.specs.BigEndian.{Bytes, byteAt, numberOf}
 use Rattle.image.specs.Layout.{Version, one, recordLength, placeOf, partOf, recordFrom, slotFrom, storedFrom, tableFrom}
-use Rattle.octets.proofs.BigEndian.{Bytes, number-from, number-append, number-lt}
+use Rattle.octets.proofs.BigEndian.{number-from, number-append, number-lt}
 use Rattle.octets.proofs.Parts.{bytes-take, bytes-drop}
 use Rattle.table.proofs.Lists.{getD-tabulate}
 use Rattle.octets.proofs.Lists.{filled-none, filled-more, filled-all}

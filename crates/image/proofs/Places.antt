@@ -13,8 +13,8 @@ use lib.Seq.{length-take-le, take-all, take-suc, drop-at, drop-drop, take-append
 use borrow.Author.Tests.{eqb-true, eq-eqb, not-true, not-false}
 use Rattle.mask.proofs.Tests.{byEq, clash, and-true, and-intro}
 use Rattle.table.specs.declared.Table.{Table}
-use Rattle.octets.specs.BigEndian.{byteAt, bytesOf, numberOf}
-use Rattle.octets.proofs.BigEndian.{Bytes, number-written, bytes-read}
+use Rattle.octets.specs.BigEndian.{Bytes, byteAt, bytesOf, numberOf}
+use Rattle.octets.proofs.BigEndian.{number-written, bytes-read}
 use Rattle.octets.proofs.Parts.{number-two, bytes-drop, bytes-take}
 use Rattle.image.specs.Layout.{Version, one, head, versionByte, recordLength, imageLength, placeOf, storedAt, storedBytes, recordsBytes, imageOf, partOf}
 use Rattle.image.proofs.Fields.{length-stored}

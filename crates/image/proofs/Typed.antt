@@ -11,7 +11,7 @@ use Rattle.table.proofs.Places.{at-tabulate}
 use Rattle.table.proofs.Value.{RecordValue, SlotValue, record-value, slot-value, unborn-value, empty-value, values-are-table, unborn-is-table}
 use Rattle.image.specs.Layout.{Version, one, partOf, recordFrom, slotFrom, tableFrom}
 use Rattle.image.specs.Images.{readNumber, readRefusal, readOf}
-use Rattle.octets.proofs.BigEndian.{Bytes}
+use Rattle.octets.specs.BigEndian.{Bytes}
 use Rattle.octets.proofs.Parts.{bytes-drop, number-take}
 use Rattle.image.proofs.Places.{bytes-part}
 

@@ -10,11 +10,8 @@ use mathlib.Core.List.{List, _++_, append-nil}
 use Prim.Native.Nat.{ℕ, zero, suc, _+_, _*_, _/_, _%_, _≤_, _<_}
 use native.Mathlib.Nat.{mul-suc}
 use native.Mathlib.Omega.{arith}
-use lib.Dec.{ltb}
-use lib.ListN.{length, getD, take, drop, take-append-drop, length-drop, drop-of-length-le, List·getD-eq-default}
+use lib.ListN.{length, getD, take, drop, take-append-drop, length-drop, drop-of-length-le}
 use lib.Seq.{take-all, take-at, take-add, drop-drop}
-use borrow.Author.Tests.{ltb-true, ltb-false}
-use Rattle.mask.proofs.Tests.{byCases}
 use Rattle.table.specs.declared.Capability.{Capability}
 use Rattle.table.specs.declared.Record.{Record}
 use Rattle.table.specs.declared.Table.{Table}
@@ -26,7 +23,7 @@ use Rattle.image.specs.declared.ReadReply.the-variants as R
 use Rattle.image.specs.Layout.{Version, one, recordLength, imageLength, storedAt, storedBytes, recordsBytes, imageOf, partOf, recordFrom, slotFrom, storedFrom, tableFrom}
 use Rattle.image.specs.Images.{readNumber, refusalAs, readRefusal, readOf}
 use Rattle.image_out.specs.Written.{writtenOf}
-use Rattle.octets.proofs.BigEndian.{Bytes}
+use Rattle.octets.specs.BigEndian.{Bytes}
 use Rattle.table.proofs.Lists.{length-tabulate, getD-tabulate}
 use Rattle.octets.proofs.Lists.{tabulate-is}
 use Rattle.image.proofs.Load.{slot-place}
@@ -35,10 +32,6 @@ use Rattle.image_out.proofs.Left.{write-done, written-done}
 use Rattle.octets.proofs.Parts.{beside}
 use Rattle.image.proofs.Fields.{record-stored, slot-stored, stored-part}
 use Rattle.image.proofs.Places.{says-image, versed-image, head-read, length-image, part-image, length-part, bytes-part}
-
--- a byte list: what the slice of an image holds
-abbrev pub AreBytes : List ℕ → Type 0
-AreBytes bytes = (i : ℕ) → i < length bytes → getD bytes i 0 < 256
 
 -- reading what was written ---------------------------------------------------------------
 module _ (v : Version) (t : Table) (z : IsTable t) where
@@ -66,10 +59,7 @@ stored-table v bytes n h = ap₂ (λ (r : Record) (s : List Capability). record 
     (tabulate-is 8 _ emptySlot (tabulate 8 (slotFrom (partOf v bytes n))) (length-tabulate 8 _)
     (λ j g. getD-tabulate 512 _ (n * 8 + j) emptySlot (omega arith) ∙ slot-place v bytes n j g ∙ sym (getD-tabulate 8 _ j emptySlot g)))
 
-module _ (v : Version) (bytes : List ℕ) (b : AreBytes bytes) (a : Accepted v bytes) where
-  all : Bytes bytes
-  all i = byCases (ltb i (length bytes)) (λ q. b i (ltb-true i _ q)) (λ q. rw (List·getD-eq-default bytes 0 (ltb-false i _ q)) (omega arith))
-
+module _ (v : Version) (bytes : List ℕ) (all : Bytes bytes) (a : Accepted v bytes) where
   -- part n within what follows the head
   within : (n : ℕ) → partOf v bytes n ≡ take (recordLength v) (drop (recordLength v * n) (drop 3 bytes))
   unfolding partOf
@@ -106,10 +96,10 @@ read-written-exact t z e buffer h =
     ap readOf (w ∙ ap (λ (r : List ℕ). imageOf one t ++ r) (drop-of-length-le buffer {i = imageLength one} (omega arith)) ∙ append-nil (imageOf one t))
     ∙ read-image t z e
 
-pub image-read : (v : Version) (bytes : List ℕ) → AreBytes bytes → readNumber (refusalAs v bytes) ≡ 0 → imageOf v (tableFrom v bytes) ≡ bytes
+pub image-read : (v : Version) (bytes : List ℕ) → Bytes bytes → readNumber (refusalAs v bytes) ≡ 0 → imageOf v (tableFrom v bytes) ≡ bytes
 image-read v bytes b e = image-is v bytes b (accepted v bytes e)
 
-pub written-read : (bytes : List ℕ) → AreBytes bytes → readNumber (readRefusal bytes) ≡ 0 → (buffer : List ℕ) → imageLength one ≤ length buffer
+pub written-read : (bytes : List ℕ) → Bytes bytes → readNumber (readRefusal bytes) ≡ 0 → (buffer : List ℕ) → imageLength one ≤ length buffer
     → writtenOf (readOf bytes .table) buffer ≡ bytes ++ drop (imageLength one) buffer
 written-read bytes b e buffer h =
     let a = accepted one bytes e in

@@ -12,4 +12,5 @@ pub mod CleanStep
 pub mod Runs
 pub mod Start
 pub mod TwoRuns
+pub mod Nonsense
 pub mod Witness

@@ -9,11 +9,7 @@ use native.Mathlib.Omega.{arith}
 use lib.ListN.{length, getD, set, take, drop, length-set}
 use lib.Seq.{take-suc, drop-length, drop-cons, drop-set-lt, getD-set-same}
 use lib.Arith.{digits-lt, digits-div, digits-mod, mod-mul}
-use Rattle.octets.specs.BigEndian.{bytesOf, numberFrom, numberOf}
-
--- every element is a byte; what lies past the end reads as 0
-abbrev pub Bytes : List ℕ → Type 0
-Bytes bs = (i : ℕ) → getD bs i 0 < 256
+use Rattle.octets.specs.BigEndian.{Bytes, bytesOf, numberFrom, numberOf}
 
 pow-pos : (k : ℕ) → 0 < 256 ^ k
 pow-pos k = one-le-pow k 256 (omega arith)

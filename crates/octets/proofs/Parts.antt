@@ -9,8 +9,8 @@ use lib.ListN.{length, getD, take, drop, length-take, List·getD-eq-default}
 use lib.Seq.{getD-take, getD-drop, getD-append-add}
 use borrow.Author.Tests.{ltb-true, ltb-false}
 use Rattle.mask.proofs.Tests.{byCases}
-use Rattle.octets.specs.BigEndian.{byteAt, numberFrom, numberOf}
-use Rattle.octets.proofs.BigEndian.{Bytes, number-next, number-within}
+use Rattle.octets.specs.BigEndian.{Bytes, byteAt, numberFrom, numberOf}
+use Rattle.octets.proofs.BigEndian.{number-next, number-within}
 
 pub beside : {a b c d : List ℕ} → a ≡ b → c ≡ d → a ++ c ≡ b ++ d
 beside e f = ap₂ (λ (x y : List ℕ). x ++ y) e f

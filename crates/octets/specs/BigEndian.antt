@@ -1,7 +1,11 @@
 -- Bytes as lists of numbers. "Big-endian": a number as bytes, the most significant first.
 use mathlib.Core.List.{List, [], _∷_}
-use Prim.Native.Nat.{ℕ, zero, suc, _+_, _*_, _/_, _%_, _^_}
+use Prim.Native.Nat.{ℕ, zero, suc, _+_, _*_, _/_, _%_, _^_, _<_}
 use lib.ListN.{getD}
+
+-- every element is a byte; what lies past the end reads as 0
+abbrev pub Bytes : List ℕ → Type 0
+Bytes bs = (i : ℕ) → getD bs i 0 < 256
 
 -- the byte at a place, and 0 past the end
 abbrev pub byteAt : List ℕ → ℕ → ℕ

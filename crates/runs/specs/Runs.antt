@@ -8,7 +8,7 @@ use mir.Val.{Val}
 use denote.Laws.{Is}
 use Rattle.table.specs.declared.Table.{Table}
 use Rattle.table.proofs.Table as T
-use Rattle.octets.proofs.BigEndian.{Bytes}
+use Rattle.octets.specs.BigEndian.{Bytes}
 use Rattle.requests.specs.Asks.{Ask, actorOf}
 use Rattle.refusals.specs.Replies.{number}
 use Rattle.refusals.specs.Refusals.{refusal}

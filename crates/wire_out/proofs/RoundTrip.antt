@@ -16,8 +16,8 @@ use lib.Dec.{ltb}
 use lib.ListN.{length, take, drop, length-append}
 use borrow.Author.Tests.{ltb-true, ltb-false}
 use Rattle.mask.proofs.Tests.{byCases}
-use Rattle.octets.specs.BigEndian.{byteAt, bytesOf, numberOf}
-use Rattle.octets.proofs.BigEndian.{Bytes, number-written}
+use Rattle.octets.specs.BigEndian.{Bytes, byteAt, bytesOf, numberOf}
+use Rattle.octets.proofs.BigEndian.{number-written}
 use Rattle.octets.proofs.Parts.{bytes-drop, number-take}
 use Rattle.requests.specs.Asks.{Ask, read, write, fetch, store, revoke, send, allocate, destroy, unknown, codeOf, PairsInBits, InBits, pairsIn}
 use Rattle.wire_out.specs.declared.Written.{Written}

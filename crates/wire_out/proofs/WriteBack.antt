@@ -12,9 +12,9 @@ use lib.Seq.{drop-drop, drop-cons, getD-drop, getD-take, length-take-le}
 use borrow.Author.Tests.{ltb-true}
 use Rattle.mask.proofs.Tests.{and-true}
 use Rattle.table.specs.Lists.{tabulate}
-use Rattle.octets.specs.BigEndian.{byteAt, bytesOf, numberOf}
+use Rattle.octets.specs.BigEndian.{Bytes, byteAt, bytesOf, numberOf}
 use Rattle.octets.proofs.Lists.{tabulate-is}
-use Rattle.octets.proofs.BigEndian.{Bytes, bytes-read}
+use Rattle.octets.proofs.BigEndian.{bytes-read}
 use Rattle.octets.proofs.Parts.{beside, bytes-drop, bytes-take}
 use Rattle.requests.specs.Asks.{Ask, write, send, allocate, codeOf, actorOf}
 use Rattle.wire.specs.Wires.{codeIn, actorIn, listPlace, countIn, sizeOf, fitsOf, listIn, wordIn, partIn, fieldsOf}
