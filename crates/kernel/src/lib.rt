@@ -22,7 +22,7 @@ ghost use Rattle.requests.specs.Asks.{askOf, pairsOf, send as sendAsk, allocate
 ghost use Rattle.steps.specs.Steps.{stepOf};
 
 // The word, the pairs and the reply slot go to an active target.
-pub fn send(t: Table, actor: u8, s: u8, word: u32, l: PairList, reply: u8) -> Stepped
+fn send(t: Table, actor: u8, s: u8, word: u32, l: PairList, reply: u8) -> Stepped
     requires { ⌜ sound t ≡ true ⌝ }
     ensures { λ r. ⌜ r ≡ stepOf t (sendAsk actor s word (pairsOf l) reply) ⌝ }
 {
@@ -49,7 +49,7 @@ pub fn send(t: Table, actor: u8, s: u8, word: u32, l: PairList, reply: u8) -> St
 }
 
 // The record of object n. Read in a function of its own, the table is copied only for as long as the read takes.
-pub fn record_of(t: Table, n: u8) -> Record
+fn record_of(t: Table, n: u8) -> Record
     requires { ⌜ n < 64 ⌝ }
     ensures { λ r. ⌜ r ≡ recordAt t n ⌝ }
 {
@@ -58,7 +58,7 @@ pub fn record_of(t: Table, n: u8) -> Record
 }
 
 // n, of the actor's own stock, becomes alive.
-pub fn allocate(t: Table, actor: u8, n: u8, kind: u8, part: u64, i: u8, l: PairList) -> Stepped
+fn allocate(t: Table, actor: u8, n: u8, kind: u8, part: u64, i: u8, l: PairList) -> Stepped
     requires { ⌜ sound t ≡ true ⌝ }
     ensures { λ r. ⌜ r ≡ stepOf t (allocateAsk actor n kind part i (pairsOf l)) ⌝ }
 {
@@ -89,7 +89,7 @@ pub fn allocate(t: Table, actor: u8, n: u8, kind: u8, part: u64, i: u8, l: PairL
 }
 
 // The target becomes dead, unless it is the actor itself.
-pub fn destroy(t: Table, actor: u8, s: u8) -> Stepped
+fn destroy(t: Table, actor: u8, s: u8) -> Stepped
     requires { ⌜ sound t ≡ true ⌝ }
     ensures { λ r. ⌜ r ≡ stepOf t (destroyAsk actor s) ⌝ }
 {

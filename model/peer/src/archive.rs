@@ -9,8 +9,6 @@ use captable::raw;
 extern "C" {
     /// The soundness scan in C.
     fn peer_scan(table: *const raw::Table) -> u8;
-    /// The archive's version.
-    pub(crate) fn captable_version() -> u32;
 }
 
 /// The version that the comparison is for, 0.1.0: the first number times 65,536, the second times 256.
@@ -69,7 +67,7 @@ pub trait Calls {
     /// The archive's version.
     fn version(&self) -> u32 {
         // SAFETY: the call takes nothing.
-        unsafe { captable_version() }
+        unsafe { raw::captable_version() }
     }
 
     /// The scan in C: 0 for a sound table, 1 for any other.

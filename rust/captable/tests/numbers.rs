@@ -1,4 +1,4 @@
-//! README's table of numbers says of every cause the number and the word that it has here.
+//! README's table of numbers and the header say of every cause the number and the word that it has here.
 
 use captable::{AccessRefusal, ReadRefusal, StepRefusal, TestRefusal, WriteRefusal};
 use std::fmt::Debug;
@@ -67,6 +67,47 @@ fn the_table_in_readme_has_every_cause_and_no_other() {
     expected.extend(causes());
     expected.push((17, String::new()));
     assert_eq!(listed, expected);
+}
+
+/// The name of a cause as the header writes it.
+fn in_c(cause: &str) -> String {
+    let mut name = "CAPTABLE".to_string();
+    for letter in cause.trim_matches('`').chars() {
+        if letter.is_uppercase() {
+            name.push('_');
+        }
+        name.push(letter.to_ascii_uppercase());
+    }
+    name
+}
+
+#[test]
+fn the_header_has_every_cause_and_no_other() {
+    let header = include_str!("../../../include/captable.h");
+    let after = header
+        .split("enum captable_number {")
+        .nth(1)
+        .expect("the enum");
+    let body = after.split("};").next().expect("its end");
+    let listed: Vec<Named> = body
+        .lines()
+        .filter_map(|line| {
+            let (name, rest) = line.trim().split_once(" = ")?;
+            let digits: String = rest.chars().take_while(char::is_ascii_digit).collect();
+            Some((digits.parse().expect("a number"), name.to_string()))
+        })
+        .collect();
+    let mut expected = vec![(0, "CAPTABLE_DONE".to_string())];
+    expected.extend(causes().into_iter().map(|(n, cause)| (n, in_c(&cause))));
+    expected.push((17, "CAPTABLE_INPUT_WRONG".to_string()));
+    assert_eq!(listed, expected);
+}
+
+#[test]
+fn the_header_has_the_same_version() {
+    let header = include_str!("../../../include/captable.h");
+    let stated = format!("\n#define CAPTABLE_VERSION {}\n", captable::VERSION);
+    assert!(header.contains(&stated));
 }
 
 #[test]

@@ -7,7 +7,6 @@ use std::mem::{size_of, size_of_val};
 use captable::raw;
 use yavrinks_tools::generate::printed_number;
 
-use crate::archive::captable_version;
 use crate::calls::{version_number, Call, Sample};
 use crate::convert::to_raw;
 
@@ -49,7 +48,7 @@ fn taken(call: Call, sample: &Sample, pattern: u8) -> Option<usize> {
         Call::Read => (raw::captable_read as *const (), [given, start, length]),
         Call::Write => (raw::captable_write as *const (), [start, length, 0]),
         Call::Confine => (raw::captable_confine as *const (), [start, length, given]),
-        Call::Version => (captable_version as *const (), [0; 3]),
+        Call::Version => (raw::captable_version as *const (), [0; 3]),
     };
     let pushed = call.takes_table().then_some(&table);
     let mut stack = vec![u128::from_ne_bytes([pattern; 16]); LENGTH / 16];
