@@ -80,11 +80,11 @@ pub fn fetch(t: Table, actor: u8, s: u8, i: u8, j: u8) -> Stepped
             table: u,
         };
     }
-    let g = v.target as usize;
-    let k = actor as usize;
-    let got = fetched(v.rights, u.slots[g * 8 + i as usize]);
-    let new = landed(u.slots[k * 8 + j as usize], got);
-    u.slots[k * 8 + j as usize] = new;
+    let from = v.target as usize * 8 + i as usize;
+    let to = actor as usize * 8 + j as usize;
+    let got = fetched(v.rights, u.slots[from]);
+    let new = landed(u.slots[to], got);
+    u.slots[to] = new;
     Stepped {
         reply: reply,
         table: u,
@@ -105,10 +105,10 @@ pub fn store(t: Table, actor: u8, s: u8, i: u8, j: u8) -> Stepped
             table: u,
         };
     }
-    let g = v.target as usize;
-    let k = actor as usize;
-    let new = landed(u.slots[g * 8 + j as usize], u.slots[k * 8 + i as usize]);
-    u.slots[g * 8 + j as usize] = new;
+    let from = actor as usize * 8 + i as usize;
+    let to = v.target as usize * 8 + j as usize;
+    let new = landed(u.slots[to], u.slots[from]);
+    u.slots[to] = new;
     Stepped {
         reply: reply,
         table: u,

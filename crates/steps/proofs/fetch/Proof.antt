@@ -20,17 +20,23 @@ check-slot-requires c κs = search needs
 returns : tie.Need-returns
 returns c = through-refused (λ g. Done) (c .before .before .before .pre) fetch-uses (c .before .before .check-slot .ensures) (c .if1 .taken)
 
-cast-g : tie.Need-cast-g
-cast-g c = search needs
+cast-from : tie.Need-cast-from
+cast-from c = search needs
+
+mul-from : tie.Need-mul-from
+mul-from c = search needs
+
+add-from : tie.Need-add-from
+add-from c = search needs
+
+mul-to : tie.Need-mul-to
+mul-to c = search needs
+
+add-to : tie.Need-add-to
+add-to c = search needs
 
 mul-fetched : tie.Need-mul-fetched
 mul-fetched c = search needs
-
-add-fetched : tie.Need-add-fetched
-add-fetched c = search needs
-
-mul-fetched-2 : tie.Need-mul-fetched-2
-mul-fetched-2 c = search needs
 
 element-copy-out-fetched : tie.Need-element-copy-out-fetched
 element-copy-out-fetched c = let v = c .before .before .before .check-slot in
@@ -43,12 +49,6 @@ fetched-requires c κs = search needs
 mul-landed : tie.Need-mul-landed
 mul-landed c = search needs
 
-add-landed : tie.Need-add-landed
-add-landed c = search needs
-
-mul-landed-2 : tie.Need-mul-landed-2
-mul-landed-2 c = search needs
-
 element-copy-out-landed : tie.Need-element-copy-out-landed
 element-copy-out-landed c = let v = c .before .before .before .before .before .check-slot in
     let d = not-false (v .result .done) (c .before .before .before .if1 .left) in
@@ -59,12 +59,6 @@ landed-requires c κs = search needs
 
 mul-new : tie.Need-mul-new
 mul-new c = search needs
-
-add-new : tie.Need-add-new
-add-new c = search needs
-
-mul-new-2 : tie.Need-mul-new-2
-mul-new-2 c = search needs
 
 element-set-from-new : tie.Need-element-set-from-new
 element-set-from-new c = let v = c .before .before .before .before .before .before .before .check-slot in
@@ -85,19 +79,17 @@ fetch-spec =
     (tie.spec
     check-slot-requires
     returns
-    cast-g
+    cast-from
+    mul-from
+    add-from
+    mul-to
+    add-to
     mul-fetched
-    add-fetched
-    mul-fetched-2
     element-copy-out-fetched
     fetched-requires
     mul-landed
-    add-landed
-    mul-landed-2
     element-copy-out-landed
     landed-requires
     mul-new
-    add-new
-    mul-new-2
     element-set-from-new
     returns-2)

@@ -20,31 +20,31 @@ check-slot-requires c κs = search needs
 returns : tie.Need-returns
 returns c = through-refused (λ g. Done) (c .before .before .before .pre) store-uses (c .before .before .check-slot .ensures) (c .if1 .taken)
 
-cast-g : tie.Need-cast-g
-cast-g c = search needs
+mul-from : tie.Need-mul-from
+mul-from c = search needs
+
+add-from : tie.Need-add-from
+add-from c = search needs
+
+cast-to : tie.Need-cast-to
+cast-to c = search needs
+
+mul-to : tie.Need-mul-to
+mul-to c = search needs
+
+add-to : tie.Need-add-to
+add-to c = search needs
 
 mul-landed : tie.Need-mul-landed
 mul-landed c = search needs
-
-add-landed : tie.Need-add-landed
-add-landed c = search needs
-
-mul-landed-2 : tie.Need-mul-landed-2
-mul-landed-2 c = search needs
 
 element-copy-out-landed : tie.Need-element-copy-out-landed
 element-copy-out-landed c = let v = c .before .before .before .check-slot in
     let d = not-false (v .result .done) (c .before .if1 .left) in
     omega (arith, v .ensures .within d, slots-placed (c .before .before .before .before .args .i) (c .before .before .before .before .args .j) (v .ensures .fields d))
 
-mul-landed-3 : tie.Need-mul-landed-3
-mul-landed-3 c = search needs
-
-add-landed-2 : tie.Need-add-landed-2
-add-landed-2 c = search needs
-
-mul-landed-4 : tie.Need-mul-landed-4
-mul-landed-4 c = search needs
+mul-landed-2 : tie.Need-mul-landed-2
+mul-landed-2 c = search needs
 
 element-copy-out-landed-2 : tie.Need-element-copy-out-landed-2
 element-copy-out-landed-2 c = let v = c .before .before .before .before .check-slot in
@@ -56,12 +56,6 @@ landed-requires c κs = search needs
 
 mul-new : tie.Need-mul-new
 mul-new c = search needs
-
-add-new : tie.Need-add-new
-add-new c = search needs
-
-mul-new-2 : tie.Need-mul-new-2
-mul-new-2 c = search needs
 
 element-set-from-new : tie.Need-element-set-from-new
 element-set-from-new c = let v = c .before .before .before .before .before .before .check-slot in
@@ -82,18 +76,16 @@ store-spec =
     (tie.spec
     check-slot-requires
     returns
-    cast-g
+    mul-from
+    add-from
+    cast-to
+    mul-to
+    add-to
     mul-landed
-    add-landed
-    mul-landed-2
     element-copy-out-landed
-    mul-landed-3
-    add-landed-2
-    mul-landed-4
+    mul-landed-2
     element-copy-out-landed-2
     landed-requires
     mul-new
-    add-new
-    mul-new-2
     element-set-from-new
     returns-2)
