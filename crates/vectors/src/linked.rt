@@ -1,7 +1,7 @@
 // Links on the cases of the confinement tests: the table's; those between the born non-members with a holder of the list at the lowest
 // member's number; and what that holder reaches.
-use crate::digest;
-use crate::input;
+use cases::digest;
+use cases::input;
 use crate::output;
 use bounds::EntryList;
 use table::Capability;

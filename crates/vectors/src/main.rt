@@ -3,9 +3,7 @@
 // program are proved; what it prints is tested.
 use turns::Turn;
 
-mod digest; // digest.rt: a short number for a table, a buffer or a relation
 mod images; // images.rt: images read, and tables written
-mod input; // input.rt: tables, requests and lists out of a case's bytes
 mod linked; // linked.rt: links
 mod output; // output.rt: the words and numbers of a line
 mod relations; // relations.rt: potential access

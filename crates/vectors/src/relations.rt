@@ -1,6 +1,6 @@
 // Potential access. A case is the 1,920 bytes of a table.
-use crate::digest;
-use crate::input;
+use cases::digest;
+use cases::input;
 use crate::output;
 
 fn answer(number: u64, s: &[u8]) {

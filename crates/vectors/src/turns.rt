@@ -1,7 +1,7 @@
 // Requests: each on a table of its own, or in a chain where each gets the table that the one before it left.
 // A case is the 1,920 bytes of a table and the 29 of a request; a chain is a table and then requests alone.
-use crate::digest;
-use crate::input;
+use cases::digest;
+use cases::input;
 use crate::output;
 use captable::Outcome;
 use requests::PairList;

@@ -1,5 +1,5 @@
 // Confinement tests. A case is the 1,920 bytes of a table, the members (8 bytes), and a list: a count and eight entries.
-use crate::input;
+use cases::input;
 use crate::output;
 
 fn answer(number: u64, s: &[u8]) {

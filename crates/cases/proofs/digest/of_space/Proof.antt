@@ -1,8 +1,8 @@
--- `vectors::digest::of_space` is safe and ends: the measure is the number of bytes left. Assumes nothing.
+-- `cases::digest::of_space` is safe and ends: the measure is the number of bytes left. Assumes nothing.
 use Prim.Native.Nat.{_≤_, _-_}
 use borrow.Author.Needs.{needs}
-use Rattle.vectors.proofs.digest.of_space.Statement.{statement}
-use Rattle.vectors.proofs.digest.of_space.Tie as tie
+use Rattle.cases.proofs.digest.of_space.Statement.{statement}
+use Rattle.cases.proofs.digest.of_space.Tie as tie
 
 abbrev Inv-loop : tie.InvT-loop
 Inv-loop bytes all₀ i₀ all i = i ≤ 4096

@@ -1,8 +1,8 @@
--- `vectors::digest::with_slots` is safe and ends: the measure is the number of slots left. Assumes nothing.
+-- `cases::digest::with_slots` is safe and ends: the measure is the number of slots left. Assumes nothing.
 use Prim.Native.Nat.{_≤_, _-_}
 use borrow.Author.Needs.{needs}
-use Rattle.vectors.proofs.digest.with_slots.Statement.{statement}
-use Rattle.vectors.proofs.digest.with_slots.Tie as tie
+use Rattle.cases.proofs.digest.with_slots.Statement.{statement}
+use Rattle.cases.proofs.digest.with_slots.Tie as tie
 
 abbrev Inv-loop : tie.InvT-loop
 Inv-loop h n slots all₀ j₀ all j = j ≤ 8

@@ -1,23 +1,35 @@
--- `vectors::input::entry_list` is safe and ends: the measure is the number of entries left. Assumes nothing.
+-- `cases::input::slots` is safe and ends: the measure is the number of slots left. Assumes nothing.
 use mathlib.Core.Path.{_≡_, refl}
 use Prim.Native.Nat.{_≤_, _-_}
 use native.Mathlib.Omega.{arith}
 use lib.ListN.{length, length-set}
 use borrow.Author.Needs.{needs}
-use Rattle.vectors.proofs.input.entry_list.Statement.{statement}
-use Rattle.vectors.proofs.input.entry_list.Tie as tie
+use Rattle.cases.proofs.input.slots.Statement.{statement}
+use Rattle.cases.proofs.input.slots.Tie as tie
 
 abbrev Inv-loop : tie.InvT-loop
-Inv-loop s at all₀ k₀ place₀ all k place = (k ≤ 8) × (length all ≡ 8)
+Inv-loop s all₀ k₀ all k = (k ≤ 512) × (length all ≡ 512)
 
 abbrev μ-loop : tie.MeasureT-loop
-μ-loop s at all₀ k₀ place₀ all k place = 8 - k
-
-on-requires : tie.Need-on-requires Inv-loop μ-loop
-on-requires c κs = search needs
+μ-loop s all₀ k₀ all k = 512 - k
 
 loop-holds : tie.Need-loop-holds Inv-loop μ-loop
 loop-holds c = (omega arith, refl)
+
+mul-capability : tie.Need-mul-capability Inv-loop μ-loop
+mul-capability c = search needs
+
+add-capability : tie.Need-add-capability Inv-loop μ-loop
+add-capability c = search needs
+
+mul-capability-2 : tie.Need-mul-capability-2 Inv-loop μ-loop
+mul-capability-2 c = search needs
+
+add-capability-2 : tie.Need-add-capability-2 Inv-loop μ-loop
+add-capability-2 c = search needs
+
+cast-capability : tie.Need-cast-capability Inv-loop μ-loop
+cast-capability c = search needs
 
 capability-requires : tie.Need-capability-requires Inv-loop μ-loop
 capability-requires c κs = search needs
@@ -28,9 +40,6 @@ mul-all c = search needs
 array-set-from-all : tie.Need-array-set-from-all Inv-loop μ-loop
 array-set-from-all c = search needs
 
-on-requires-2 : tie.Need-on-requires-2 Inv-loop μ-loop
-on-requires-2 c κs = search needs
-
 add-k : tie.Need-add-k Inv-loop μ-loop
 add-k c = search needs
 
@@ -38,28 +47,27 @@ loop-less : tie.Need-loop-less Inv-loop μ-loop
 loop-less c = search needs
 
 loop-again : tie.Need-loop-again Inv-loop μ-loop
-loop-again c = (omega arith, simp length-set (c .before .before .before .loop .inv .1))
-
-byte-requires : tie.Need-byte-requires Inv-loop μ-loop
-byte-requires c κs = search needs
+loop-again c = (omega arith, simp length-set (c .before .before .loop .inv .1))
 
 returns : tie.Need-returns Inv-loop μ-loop
 returns c = search needs
 
-pub entry-list-spec : {M : Type 1} → statement M
-entry-list-spec =
+pub slots-spec : {M : Type 1} → statement M
+slots-spec =
     tie.close
     (tie.spec
     Inv-loop
     μ-loop
-    on-requires
     loop-holds
+    mul-capability
+    add-capability
+    mul-capability-2
+    add-capability-2
+    cast-capability
     capability-requires
     mul-all
     array-set-from-all
-    on-requires-2
     add-k
     loop-less
     loop-again
-    byte-requires
     returns)

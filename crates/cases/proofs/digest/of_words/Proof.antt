@@ -2,8 +2,8 @@
 use Prim.Native.Nat.{_≤_, _-_}
 use lib.ListN.{length}
 use borrow.Author.Needs.{needs}
-use Rattle.vectors.proofs.digest.of_words.Statement.{statement}
-use Rattle.vectors.proofs.digest.of_words.Tie as tie
+use Rattle.cases.proofs.digest.of_words.Statement.{statement}
+use Rattle.cases.proofs.digest.of_words.Tie as tie
 
 abbrev Inv-loop : tie.InvT-loop
 Inv-loop words all₀ i₀ all i = i ≤ length words

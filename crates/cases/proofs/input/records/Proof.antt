@@ -1,11 +1,11 @@
--- `vectors::input::records` is safe and ends: the measure is the number of records left. Assumes nothing.
+-- `cases::input::records` is safe and ends: the measure is the number of records left. Assumes nothing.
 use mathlib.Core.Path.{_≡_, refl}
 use Prim.Native.Nat.{_≤_, _-_}
 use native.Mathlib.Omega.{arith}
 use lib.ListN.{length, length-set}
 use borrow.Author.Needs.{needs}
-use Rattle.vectors.proofs.input.records.Statement.{statement}
-use Rattle.vectors.proofs.input.records.Tie as tie
+use Rattle.cases.proofs.input.records.Statement.{statement}
+use Rattle.cases.proofs.input.records.Tie as tie
 
 abbrev Inv-loop : tie.InvT-loop
 Inv-loop s all₀ n₀ at₀ all n at = (n ≤ 64) × (length all ≡ 64)

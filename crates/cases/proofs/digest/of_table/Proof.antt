@@ -1,8 +1,8 @@
--- `vectors::digest::of_table` is safe and ends: the measure is the number of records left. Assumes nothing.
+-- `cases::digest::of_table` is safe and ends: the measure is the number of records left. Assumes nothing.
 use Prim.Native.Nat.{_≤_, _-_}
 use borrow.Author.Needs.{needs}
-use Rattle.vectors.proofs.digest.of_table.Statement.{statement}
-use Rattle.vectors.proofs.digest.of_table.Tie as tie
+use Rattle.cases.proofs.digest.of_table.Statement.{statement}
+use Rattle.cases.proofs.digest.of_table.Tie as tie
 
 abbrev Inv-loop : tie.InvT-loop
 Inv-loop records slots all₀ n₀ all n = n ≤ 64

@@ -1,7 +1,7 @@
--- `vectors::digest::with_number` is safe and ends: the measure is the number of bytes left. Assumes nothing.
+-- `cases::digest::with_number` is safe and ends: the measure is the number of bytes left. Assumes nothing.
 use borrow.Author.Needs.{needs}
-use Rattle.vectors.proofs.digest.with_number.Statement.{statement}
-use Rattle.vectors.proofs.digest.with_number.Tie as tie
+use Rattle.cases.proofs.digest.with_number.Statement.{statement}
+use Rattle.cases.proofs.digest.with_number.Tie as tie
 
 abbrev Inv-loop : tie.InvT-loop
 Inv-loop h n size all₀ left₀ all left = Unit {0}
