@@ -1,8 +1,8 @@
 // Images read, and the tables written back; then tables written that need not be sound. A case of the first is two lengths, of
 // the image and of the buffer, two bytes each, and the image; of the second the 1,920 bytes of a table and the buffer's length.
+use crate::output;
 use cases::digest;
 use cases::input;
-use crate::output;
 use image::Loaded;
 use table::Table;
 ghost use mathlib.Core.Path.{_≡_};

@@ -1,9 +1,9 @@
 // Links on the cases of the confinement tests: the table's; those between the born non-members with a holder of the list at the lowest
 // member's number; and what that holder reaches.
-use cases::digest;
-use cases::input;
 use crate::output;
 use bounds::EntryList;
+use cases::digest;
+use cases::input;
 use table::Capability;
 
 // The links of slots between numbers of `outside`, and of the list that x holds. A list that is too long, or no holder, adds none.

@@ -1,7 +1,7 @@
 // Potential access. A case is the 1,920 bytes of a table.
+use crate::output;
 use cases::digest;
 use cases::input;
-use crate::output;
 
 fn answer(number: u64, s: &[u8]) {
     let found = access::potential_access(input::raw_table(s));

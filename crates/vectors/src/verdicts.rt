@@ -1,6 +1,6 @@
 // Confinement tests. A case is the 1,920 bytes of a table, the members (8 bytes), and a list: a count and eight entries.
-use cases::input;
 use crate::output;
+use cases::input;
 
 fn answer(number: u64, s: &[u8]) {
     let t = input::raw_table(s);
