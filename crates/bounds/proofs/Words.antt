@@ -63,7 +63,7 @@ lowest-has (suc f) i p h = byCases (p i)
     (λ e. rw (e, lowestFrom) e)
     (λ e. rw (e, lowestFrom) (lowest-has f (suc i) p (omega (arith, rw (e, lowestFrom) at h))))
 
-standing : (set : ℕ) → standIn set < 64 → has (standIn set) set ≡ true
+pub standing : (set : ℕ) → standIn set < 64 → has (standIn set) set ≡ true
 unfolding standIn
 standing set h = lowest-has 64 0 (λ n. has n set) (omega arith)
 
@@ -87,34 +87,34 @@ module _ (t : Table) (members : ℕ) (l : EntryList) (low : standIn members < 64
   lowest : has X members ≡ true
   lowest = standing members low
 
-  free-node : (x : ℕ) → has x F ≡ true → testNode t members x ≡ true
+  pub free-node : (x : ℕ) → has x F ≡ true → testNode t members x ≡ true
   unfolding testNode
   free-node x e = let p = outside-facts t members x e in rw (p .1, testNode) (p .0)
 
-  x-node : testNode t members X ≡ true
+  pub x-node : testNode t members X ≡ true
   unfolding testNode
   x-node = rw (lowest, testNode) (and-intro (ltb X 64) (eqb X X) (lt-ltb X 64 low) (eq-eqb X X refl))
 
   -- who takes part is a born non-member or the stand-in
-  node-cases : {P : Type 0} (x : ℕ) → testNode t members x ≡ true → (has x members ≡ false → has x F ≡ true → P) → (has x members ≡ true → x ≡ X → P) → P
+  pub node-cases : {P : Type 0} (x : ℕ) → testNode t members x ≡ true → (has x members ≡ false → has x F ≡ true → P) → (has x members ≡ true → x ≡ X → P) → P
   unfolding testNode
   node-cases x e f g = byCases (has x members)
       (λ h. g h (eqb-true x X (and-true (ltb x 64) (eqb x X) (rw (h, testNode) at e) .1)))
       (λ h. f h (outside-intro t members x (rw (h, testNode) at e) h))
 
-  held-free : (b : Right) (x y : ℕ) → has x members ≡ false → has y members ≡ false → holdsIn t b x y ≡ true → testHeld t members list b x y ≡ true
+  pub held-free : (b : Right) (x y : ℕ) → has x members ≡ false → has y members ≡ false → holdsIn t b x y ≡ true → testHeld t members list b x y ≡ true
   unfolding testHeld
   held-free b x y u v e = rw (v, u, testHeld) e
 
-  held-x : (b : Right) (y : ℕ) → has y members ≡ false → listed list b y ≡ true → testHeld t members list b X y ≡ true
+  pub held-x : (b : Right) (y : ℕ) → has y members ≡ false → listed list b y ≡ true → testHeld t members list b X y ≡ true
   unfolding testHeld
   held-x b y v e = rw (v, lowest, testHeld) (and-intro (eqb X X) (listed list b y) (eq-eqb X X refl) e)
 
-  held-not : (b : Right) (x y : ℕ) → testHeld t members list b x y ≡ true → has y members ≡ false
+  pub held-not : (b : Right) (x y : ℕ) → testHeld t members list b x y ≡ true → has y members ≡ false
   unfolding testHeld
   held-not b x y e = not-true _ (and-true (not (has y members)) _ e .0)
 
-  held-cases : {P : Type 0} (b : Right) (x y : ℕ) → testHeld t members list b x y ≡ true → has y members ≡ false
+  pub held-cases : {P : Type 0} (b : Right) (x y : ℕ) → testHeld t members list b x y ≡ true → has y members ≡ false
       → (has x members ≡ false → holdsIn t b x y ≡ true → P) → (x ≡ X → listed list b y ≡ true → P) → P
   unfolding testHeld
   held-cases b x y e v f g = byCases (has x members)
@@ -122,11 +122,11 @@ module _ (t : Table) (members : ℕ) (l : EntryList) (low : standIn members < 64
       (λ h. f h (rw (v, h, testHeld) at e))
 
   -- the list's entries, as the code holds them
-  entry-at : (k : ℕ) → k < l .count → entryAt list k ≡ slotOf (l .entries) k
+  pub entry-at : (k : ℕ) → k < l .count → entryAt list k ≡ slotOf (l .entries) k
   unfolding entriesOf
   entry-at k h = getD-tabulate (l .count) _ k emptySlot h
 
-  long : length list ≡ l .count
+  pub long : length list ≡ l .count
   unfolding entriesOf
   long = length-tabulate (l .count) _
 

@@ -1,0 +1,1 @@
+// Shortest chains of links: laws, and no code yet.
