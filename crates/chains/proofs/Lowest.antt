@@ -1,7 +1,7 @@
 -- The lowest number that passes a test: it passes, it is below the limit, and no number that passes is lower, where there is one at
 -- all. By the numbers that are looked at. Assumes nothing.
-use mathlib.Core.Path.{_≡_, refl}
-use mathlib.Core.Bool.{Bool, true, false}
+use mathlib.Core.Path.{_≡_}
+use mathlib.Core.Bool.{Bool, true}
 use Prim.Native.Nat.{ℕ, zero, suc, _+_, _≤_, _<_}
 use native.Mathlib.Omega.{arith}
 use Rattle.mask.proofs.Tests.{byCases, byEq, clash}

@@ -2,15 +2,15 @@
 -- x itself left out. With layers counted from z backwards, the walk that takes the lowest number of the next layer each time is the
 -- chain that comes first among the shortest: it is a chain (`walk-chain`), none is shorter (`none-shorter`), none of its length comes
 -- before it (`walk-first`), and no other is both (`first-alone`). Assumes nothing.
-use mathlib.Core.Path.{_≡_, refl, sym, _∙_, ap, ap₂, subst, subst⁻¹}
-use mathlib.Core.Bool.{Bool, true, false, _&&_, _||_}
+use mathlib.Core.Path.{_≡_, refl, sym, _∙_, ap, subst, subst⁻¹}
+use mathlib.Core.Bool.{Bool, true, false, _&&_}
 use mathlib.Core.List.{List, [], _∷_}
 use Prim.Native.Nat.{ℕ, zero, suc, _+_, _≤_, _<_}
 use native.Mathlib.Omega.{arith}
 use lib.Dec.{eqb}
 use lib.ListN.{length}
 use borrow.Author.Tests.{eqb-true, eq-eqb}
-use Rattle.mask.specs.Sets.{has, anyBelow}
+use Rattle.mask.specs.Sets.{has}
 use Rattle.mask.proofs.Tests.{byCases, byEq, clash, and-true, and-intro, or-cases, or-left, or-right}
 use Rattle.mask.proofs.Below.{any-intro, any-elim}
 use Rattle.relation.specs.Closure.{grow, spread, only, mostRounds, reached}

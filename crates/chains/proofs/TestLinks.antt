@@ -3,14 +3,12 @@
 -- that has one. Assumes nothing.
 use mathlib.Core.Path.{_≡_, refl, _∙_, ap₂, subst⁻¹}
 use mathlib.Core.Bool.{Bool, true, false, _&&_, _||_}
-use mathlib.Core.List.{List}
 use Prim.Native.Nat.{ℕ, _<_}
 use lib.Dec.{eqb}
 use borrow.Author.Tests.{eqb-true, eq-eqb}
 use Rattle.mask.specs.Sets.{has, anyBelow}
 use Rattle.mask.proofs.Tests.{clash, bool-ext, and-true, and-intro, or-cases, or-left, or-right}
 use Rattle.mask.proofs.Below.{any-intro, any-elim}
-use Rattle.table.specs.declared.Capability.{Capability}
 use Rattle.table.specs.declared.Table.{Table}
 use Rattle.table.specs.Cells.{slotOf}
 use Rattle.relation.specs.Relation.{Right, rd, wr, wk, tx, bitAt, Holding, holdsIn}
