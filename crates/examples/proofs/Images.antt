@@ -16,7 +16,8 @@ use Rattle.image.specs.Images.{refusalAs, readOf, readNumber}
 use Rattle.entries.specs.Entries.{entryIn, entriesIn}
 use Rattle.report.specs.Input.{wrongLength, membersOf, listOf}
 use Rattle.report.specs.Decisions.{loadedDecision, decisionOf}
-use Rattle.report.specs.Printed.{decimal, numberLines, refusedLine, acceptedLines, linesOf, printedOf}
+use Rattle.lines.specs.Lines.{decimal, numberLines, refusedLine, acceptedLines, linesOf}
+use Rattle.report.specs.Printed.{printedOf}
 use Rattle.examples.specs.TableK.{K}
 use Rattle.examples.specs.Statement.{input}
 

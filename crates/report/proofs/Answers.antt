@@ -1,5 +1,5 @@
--- What is decided, by the ways that the code goes: each definition of Decisions.antt at the branch that was taken; every number that is
--- decided has at most two digits; and what is printed of a decision. Assumes nothing.
+-- What is decided, by the ways that the code goes: each definition of Decisions.antt at the branch that was taken; and every number
+-- that is decided has at most two digits. Assumes nothing.
 use mathlib.Core.Path.{_≡_, refl, sym, _∙_, ap, ap₂}
 use mathlib.Core.Logic.{_≢_}
 use mathlib.Core.Bool.{true, false}
@@ -25,10 +25,9 @@ use Rattle.confinement.specs.Refusals.{verdictNumber}
 use Rattle.confinement.specs.Tests.{testOf}
 use Rattle.entries.specs.Entries.{heldEntries}
 use Rattle.entries.proofs.Lists.{test-bytes}
-use Rattle.report.specs.declared.Decision.{Decision}
+use Rattle.lines.specs.declared.Decision.{Decision}
 use Rattle.report.specs.Input.{fixedLength, wrongLength, imagePart, membersOf, listOf}
 use Rattle.report.specs.Decisions.{refusedBy, testDecision, loadedDecision, decisionOf}
-use Rattle.report.specs.Printed.{refusedLine, acceptedLines, linesOf}
 
 -- what is decided --------------------------------------------------------------------------
 -- an image that was read, or not
@@ -86,13 +85,3 @@ unfolding decisionOf
 decision-small input = byCases (wrongLength input)
     (λ e. rw (e, decisionOf) (omega arith))
     (λ e. rw (e, decisionOf) (loaded-small (readOf (imagePart input)) input))
-
--- what is printed -----------------------------------------------------------------------------
-module _ (d : Decision) where
-  pub lines-refused : d .number ≢ 0 → linesOf d ≡ refusedLine (d .number)
-  unfolding linesOf
-  lines-refused n = rw (ne-eqb (d .number) 0 n, linesOf) refl
-
-  pub lines-accepted : d .number ≡ 0 → linesOf d ≡ acceptedLines (d .bound)
-  unfolding linesOf
-  lines-accepted z = rw (eq-eqb (d .number) 0 z, linesOf) refl

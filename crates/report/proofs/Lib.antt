@@ -1,4 +1,3 @@
 -- The laws that the proofs cite.
-pub mod Buffers
 pub mod Inputs
 pub mod Answers

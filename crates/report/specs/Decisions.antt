@@ -9,7 +9,7 @@ use Rattle.confinement.specs.Refusals.{verdictNumber}
 use Rattle.confinement.specs.Tests.{testOf}
 use Rattle.image.specs.declared.Loaded.{Loaded}
 use Rattle.image.specs.Images.{readOf, readNumber}
-use Rattle.report.specs.declared.Decision.{Decision}
+use Rattle.lines.specs.declared.Decision.{Decision}
 use Rattle.report.specs.Input.{wrongLength, imagePart, membersOf, listOf}
 
 -- a refusal, with an empty bound

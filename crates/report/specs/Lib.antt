@@ -1,4 +1,3 @@
 pub mod Input
 pub mod Decisions
 pub mod Printed
-pub mod Helpers

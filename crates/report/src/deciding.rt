@@ -1,6 +1,6 @@
 // What `confine` decides of an input: 17 first, then the image's refusals, then the test's.
-use crate::Decision;
 use image::Loaded;
+use lines::Decision;
 ghost use mathlib.Core.Path.{_≡_};
 ghost use Prim.Native.Nat.{_+_, _*_};
 ghost use lib.ListN.{length};

@@ -2,18 +2,11 @@
 // bound, and then prints these.
 
 pub mod deciding; // deciding.rt: from the input to a number and a bound
-mod lines; // lines.rt: from these to lines
 
 ghost use mathlib.Core.Path.{_≡_};
 ghost use mathlib.Core.List.{_++_};
 ghost use lib.ListN.{length, drop};
 ghost use Rattle.report.specs.Printed.{printedOf};
-
-// What was decided: 0 for accepted or the number of the refusal, and the bound, which is empty on every refusal.
-pub struct Decision {
-    pub number: u8,
-    pub bound: u64,
-}
 
 // Puts what `confine` prints for the input at the buffer's start, and says how many bytes that is: at most 191. The bytes after
 // them are left as they were.

@@ -1,14 +1,14 @@
 // Runs the proved code on the cases of data/, which the reference model makes, and prints what it answers, a line for each case.
 // The model also makes the expected output, so the gate compares two programs that share no code. The safety and the end of this
 // program are proved; what it prints is tested.
+use parts::images;
+use parts::linked;
+use parts::output;
+use parts::relations;
+use parts::verdicts;
 use turns::Turn;
 
-mod images; // images.rt: images read, and tables written
-mod linked; // linked.rt: links
-mod output; // output.rt: the words and numbers of a line
-mod relations; // relations.rt: potential access
 mod turns; // turns.rt: requests
-mod verdicts; // verdicts.rt: confinement tests
 
 // What a file's cases are put to.
 enum Part {

@@ -1,9 +1,9 @@
 // Requests: each on a table of its own, or in a chain where each gets the table that the one before it left.
 // A case is the 1,920 bytes of a table and the 29 of a request; a chain is a table and then requests alone.
-use crate::output;
 use captable::Outcome;
 use cases::digest;
 use cases::input;
+use parts::output;
 use requests::PairList;
 use requests::Request;
 use steps::Stepped;

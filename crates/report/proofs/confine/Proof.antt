@@ -1,7 +1,7 @@
 -- `confine` meets its contract: what is decided has a number of two digits at most, and is printed. Assumes nothing.
 use mathlib.Core.Path.{ap}
 use native.Mathlib.Omega.{arith}
-use Rattle.report.specs.declared.Decision.{Decision}
+use Rattle.lines.specs.declared.Decision.{Decision}
 use Rattle.report.proofs.Answers.{decision-small}
 use borrow.Author.Needs.{needs}
 use Rattle.report.proofs.confine.Statement.{statement}

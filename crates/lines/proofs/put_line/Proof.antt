@@ -1,10 +1,10 @@
 -- `report::lines::put_line` meets its contract: the stores are a run of the line's bytes. Assumes nothing.
 use native.Mathlib.Omega.{arith}
 use lib.ListN.{length-set}
-use Rattle.report.proofs.Buffers.{line-put-one, line-put-two}
+use Rattle.lines.proofs.Buffers.{line-put-one, line-put-two}
 use borrow.Author.Needs.{needs}
-use Rattle.report.proofs.lines.put_line.Statement.{statement}
-use Rattle.report.proofs.lines.put_line.Tie as tie
+use Rattle.lines.proofs.put_line.Statement.{statement}
+use Rattle.lines.proofs.put_line.Tie as tie
 
 add-out : tie.Need-add-out
 add-out c = search needs

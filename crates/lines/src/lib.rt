@@ -1,13 +1,18 @@
 // The lines of a decision, put into a buffer one after the other. Each function says where the next line goes.
-use crate::Decision;
 ghost use mathlib.Core.Path.{_≡_};
 ghost use Prim.Native.Nat.{_+_, _≤_, _<_};
 ghost use lib.ListN.{length};
-ghost use Rattle.report.specs.Printed.{numberLine, numberLines, refusedLine, acceptedLines, linesOf};
-ghost use Rattle.report.specs.Helpers.{placed, begun, lineIf};
+ghost use Rattle.lines.specs.Lines.{numberLine, numberLines, refusedLine, acceptedLines, linesOf};
+ghost use Rattle.lines.specs.Helpers.{placed, begun, lineIf};
+
+// What was decided: 0 for accepted or the number of the refusal, and the bound, which is empty on every refusal.
+pub struct Decision {
+    pub number: u8,
+    pub bound: u64,
+}
 
 // A word first.
-pub fn put_word(out: &mut [u8], word: &[u8]) -> usize
+fn put_word(out: &mut [u8], word: &[u8]) -> usize
     requires { ⌜ length (now word) ≤ length (now out) ⌝ }
     ensures next { λ r. ⌜ r ≡ length (now (word .entry)) ⌝ }
     ensures left { λ _. ⌜ now (out .exit) ≡ begun (now (out .entry)) (now (word .entry)) ⌝ }
@@ -21,7 +26,7 @@ pub fn put_word(out: &mut [u8], word: &[u8]) -> usize
 }
 
 // A number's line: one digit or two, and the newline.
-pub fn put_line(out: &mut [u8], at: usize, n: u8) -> usize
+fn put_line(out: &mut [u8], at: usize, n: u8) -> usize
     requires { ⌜ (at + 3 ≤ length (now out)) × (n < 100) ⌝ }
     ensures next { λ r. ⌜ r ≡ at + length (numberLine n) ⌝ }
     ensures left { λ _. ⌜ now (out .exit) ≡ placed (now (out .entry)) at (numberLine n) ⌝ }
@@ -38,7 +43,7 @@ pub fn put_line(out: &mut [u8], at: usize, n: u8) -> usize
 }
 
 // The line of a number that is in the set.
-pub fn put_if(out: &mut [u8], at: usize, set: u64, n: u8) -> usize
+fn put_if(out: &mut [u8], at: usize, set: u64, n: u8) -> usize
     requires { ⌜ (at + 3 ≤ length (now out)) × (n < 100) ⌝ }
     ensures next { λ r. ⌜ r ≡ at + length (lineIf set n) ⌝ }
     ensures left { λ _. ⌜ now (out .exit) ≡ placed (now (out .entry)) at (lineIf set n) ⌝ }
@@ -50,7 +55,7 @@ pub fn put_if(out: &mut [u8], at: usize, set: u64, n: u8) -> usize
 }
 
 // A line for each number of the set, ascending: at most three bytes for each of 64.
-pub fn put_numbers(out: &mut [u8], at: usize, set: u64) -> usize
+fn put_numbers(out: &mut [u8], at: usize, set: u64) -> usize
     requires { ⌜ at + 192 ≤ length (now out) ⌝ }
     ensures next { λ r. ⌜ r ≡ at + length (numberLines set 64) ⌝ }
     ensures left { λ _. ⌜ now (out .exit) ≡ placed (now (out .entry)) at (numberLines set 64) ⌝ }
@@ -65,7 +70,7 @@ pub fn put_numbers(out: &mut [u8], at: usize, set: u64) -> usize
 }
 
 // The whole of a refusal.
-pub fn put_refused(out: &mut [u8], n: u8) -> usize
+fn put_refused(out: &mut [u8], n: u8) -> usize
     requires { ⌜ (256 ≤ length (now out)) × (n < 100) ⌝ }
     ensures next { λ r. ⌜ r ≡ length (refusedLine n) ⌝ }
     ensures left { λ _. ⌜ now (out .exit) ≡ begun (now (out .entry)) (refusedLine n) ⌝ }
@@ -75,7 +80,7 @@ pub fn put_refused(out: &mut [u8], n: u8) -> usize
 }
 
 // The whole of an acceptance.
-pub fn put_accepted(out: &mut [u8], bound: u64) -> usize
+fn put_accepted(out: &mut [u8], bound: u64) -> usize
     requires { ⌜ 256 ≤ length (now out) ⌝ }
     ensures next { λ r. ⌜ r ≡ length (acceptedLines bound) ⌝ }
     ensures left { λ _. ⌜ now (out .exit) ≡ begun (now (out .entry)) (acceptedLines bound) ⌝ }

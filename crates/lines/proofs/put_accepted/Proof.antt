@@ -1,11 +1,11 @@
 -- `report::lines::put_accepted` meets its contract: the numbers' lines join the word's line. Assumes nothing.
 use mathlib.Core.Path.{_∙_}
 use mathlib.Core.List.{[], _∷_, _++_}
-use Rattle.report.specs.Printed.{newline, acceptedWord, numberLines, acceptedLines}
-use Rattle.report.proofs.Buffers.{begun-next}
+use Rattle.lines.specs.Lines.{newline, acceptedWord, numberLines, acceptedLines}
+use Rattle.lines.proofs.Buffers.{begun-next}
 use borrow.Author.Needs.{needs}
-use Rattle.report.proofs.lines.put_accepted.Statement.{statement}
-use Rattle.report.proofs.lines.put_accepted.Tie as tie
+use Rattle.lines.proofs.put_accepted.Statement.{statement}
+use Rattle.lines.proofs.put_accepted.Tie as tie
 
 slice-aggregate-put-word : tie.Need-slice-aggregate-put-word
 slice-aggregate-put-word c = search needs

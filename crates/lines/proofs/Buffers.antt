@@ -13,8 +13,8 @@ use lib.Seq.{length-take-le, take-at, drop-at, drop-drop, take-all, sets-eq, pas
 use borrow.Author.Tests.{lt-ltb, le-ltb, ltb-true, ltb-false}
 use Rattle.mask.specs.Sets.{has}
 use Rattle.mask.proofs.Tests.{byCases}
-use Rattle.report.specs.Printed.{newline, decimal, numberLine, numberLines}
-use Rattle.report.specs.Helpers.{placed, begun, lineIf}
+use Rattle.lines.specs.Lines.{newline, decimal, numberLine, numberLines}
+use Rattle.lines.specs.Helpers.{placed, begun, lineIf}
 
 -- a word -------------------------------------------------------------------------------
 -- the loop that copies a word to the buffer's start: one more byte, and all

@@ -5,10 +5,10 @@ use Prim.Native.Nat.{_≤_, _-_}
 use native.Mathlib.Omega.{arith}
 use lib.ListN.{length, length-set}
 use lib.Seq.{paste, paste-zero}
-use Rattle.report.proofs.Buffers.{word-more, word-all}
+use Rattle.lines.proofs.Buffers.{word-more, word-all}
 use borrow.Author.Needs.{needs}
-use Rattle.report.proofs.lines.put_word.Statement.{statement}
-use Rattle.report.proofs.lines.put_word.Tie as tie
+use Rattle.lines.proofs.put_word.Statement.{statement}
+use Rattle.lines.proofs.put_word.Tie as tie
 
 abbrev Inv-loop : tie.InvT-loop
 Inv-loop out₀ word i₀ out i = (i ≤ length word) × (length out ≡ length out₀) × (out ≡ paste out₀ 0 word i)

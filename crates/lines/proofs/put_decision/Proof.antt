@@ -1,8 +1,8 @@
 -- `put_decision` meets its contract, by the number. Assumes nothing.
-use Rattle.report.proofs.Answers.{lines-refused, lines-accepted}
+use Rattle.lines.proofs.Answers.{lines-refused, lines-accepted}
 use borrow.Author.Needs.{needs}
-use Rattle.report.proofs.lines.put_decision.Statement.{statement}
-use Rattle.report.proofs.lines.put_decision.Tie as tie
+use Rattle.lines.proofs.put_decision.Statement.{statement}
+use Rattle.lines.proofs.put_decision.Tie as tie
 
 put-refused-requires : tie.Need-put-refused-requires
 put-refused-requires c κs = search needs

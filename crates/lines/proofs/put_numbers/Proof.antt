@@ -4,12 +4,12 @@ use mathlib.Core.Path.{_≡_, refl, _∙_}
 use Prim.Native.Nat.{_+_, _≤_, _-_}
 use native.Mathlib.Omega.{arith}
 use lib.ListN.{length}
-use Rattle.report.specs.Printed.{numberLines}
-use Rattle.report.specs.Helpers.{placed}
-use Rattle.report.proofs.Buffers.{length-lines, lines-none, lines-more}
+use Rattle.lines.specs.Lines.{numberLines}
+use Rattle.lines.specs.Helpers.{placed}
+use Rattle.lines.proofs.Buffers.{length-lines, lines-none, lines-more}
 use borrow.Author.Needs.{needs}
-use Rattle.report.proofs.lines.put_numbers.Statement.{statement}
-use Rattle.report.proofs.lines.put_numbers.Tie as tie
+use Rattle.lines.proofs.put_numbers.Statement.{statement}
+use Rattle.lines.proofs.put_numbers.Tie as tie
 
 abbrev Inv-loop : tie.InvT-loop
 Inv-loop out₀ at set next₀ n₀ out next n = (n ≤ 64) × (length out ≡ length out₀) × ((next ≡ at + length (numberLines set n)) × (out ≡ placed out₀ at (numberLines set n)))

@@ -1,10 +1,10 @@
 -- `report::lines::put_refused` meets its contract: the number's line joins the word. Assumes nothing.
 use mathlib.Core.Path.{_∙_}
-use Rattle.report.specs.Printed.{refusedWord, numberLine, refusedLine}
-use Rattle.report.proofs.Buffers.{begun-next}
+use Rattle.lines.specs.Lines.{refusedWord, numberLine, refusedLine}
+use Rattle.lines.proofs.Buffers.{begun-next}
 use borrow.Author.Needs.{needs}
-use Rattle.report.proofs.lines.put_refused.Statement.{statement}
-use Rattle.report.proofs.lines.put_refused.Tie as tie
+use Rattle.lines.proofs.put_refused.Statement.{statement}
+use Rattle.lines.proofs.put_refused.Tie as tie
 
 slice-aggregate-put-word : tie.Need-slice-aggregate-put-word
 slice-aggregate-put-word c = search needs

@@ -1,9 +1,9 @@
 -- `report::lines::put_if` meets its contract, by the answer of `has`. Assumes nothing.
 use mathlib.Core.Path.{sym, _∙_}
-use Rattle.report.proofs.Buffers.{if-in, if-out, none-put}
+use Rattle.lines.proofs.Buffers.{if-in, if-out, none-put}
 use borrow.Author.Needs.{needs}
-use Rattle.report.proofs.lines.put_if.Statement.{statement}
-use Rattle.report.proofs.lines.put_if.Tie as tie
+use Rattle.lines.proofs.put_if.Statement.{statement}
+use Rattle.lines.proofs.put_if.Tie as tie
 
 has-requires : tie.Need-has-requires
 has-requires c κs = search needs

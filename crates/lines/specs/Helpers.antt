@@ -4,7 +4,7 @@ use mathlib.Core.List.{List, [], _++_}
 use Prim.Native.Nat.{ℕ, _+_}
 use lib.ListN.{length, take, drop}
 use Rattle.mask.specs.Sets.{has}
-use Rattle.report.specs.Printed.{numberLine}
+use Rattle.lines.specs.Lines.{numberLine}
 
 -- the buffer with the bytes put at a place
 abbrev pub placed : List ℕ → ℕ → List ℕ → List ℕ

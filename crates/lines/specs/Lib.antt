@@ -1,0 +1,3 @@
+-- What is printed of a decision.
+pub mod Lines
+pub mod Helpers
