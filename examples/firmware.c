@@ -1,6 +1,6 @@
 /*
  * A small main loop over the capability table: load an image, serve the mailboxes, test a newly loaded
- * subsystem, write the image back.
+ * subsystem and say how it gets at an object, write the image back.
  *
  *     firmware IMAGE NEW_IMAGE
  *
@@ -120,11 +120,13 @@ static int load(const char *path)
     return 0;
 }
 
-/* Tests the subsystem {5, 10}, which may hold wr over 1. */
+/* The subsystem {5, 10}, which may hold wr over 1. */
+static const uint64_t members = (uint64_t)1 << 5 | (uint64_t)1 << 10;
+static const uint8_t list[2] = {1, CAPTABLE_WR};
+
+/* Tests the subsystem. */
 static int admit(void)
 {
-    const uint8_t list[2] = {1, CAPTABLE_WR};
-    const uint64_t members = (uint64_t)1 << 5 | (uint64_t)1 << 10;
     captable_finding finding = captable_test(table, members, list, sizeof list);
     unsigned n;
 
@@ -136,6 +138,23 @@ static int admit(void)
     for (n = 0; n < CAPTABLE_OBJECTS; n++)
         if (finding.bound >> n & 1)
             printf(" %u", n);
+    printf("\n");
+    return 0;
+}
+
+/* The technician sees an object in the bound and asks how it got there. */
+static int explain(uint8_t object)
+{
+    captable_shown shown = captable_chain(table, members, list, sizeof list, object);
+    unsigned k;
+
+    if (shown.number != CAPTABLE_DONE) {
+        fprintf(stderr, "no chain to %u: %u, %s\n", object, shown.number, captable_reason(shown.number));
+        return 1;
+    }
+    printf("how it gets at %u:", object);
+    for (k = 0; k < shown.count; k++)
+        printf(" %u", shown.numbers[k]);
     printf("\n");
     return 0;
 }
@@ -182,7 +201,7 @@ int main(int count, char **words)
     ask_again();
     serve();
     printf("3's word is %lu\n", (unsigned long)table.records[3].word);
-    if (admit() != 0)
+    if (admit() != 0 || explain(2) != 0)
         return 1;
     return save(words[2]);
 }

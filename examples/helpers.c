@@ -1,6 +1,6 @@
 /*
  * What the header itself gives: reasons, stamping, slots, version, the bytes of requests. Each is held to
- * what document 01 says, written out here. Exit status: 0 if all is as it should be, 1 if not.
+ * what the documents say, written out here. Exit status: 0 if all is as it should be, 1 if not.
  */
 #include "captable.h"
 
@@ -17,7 +17,7 @@ static void check(int holds, const char *what)
     }
 }
 
-/* One reason for each of 0 to 17, each other than the rest, and one for all numbers that are no answer. */
+/* One reason for each of 0 to 19, each other than the rest, and one for all numbers that are no answer. */
 static void reasons(void)
 {
     unsigned a, b;
@@ -25,17 +25,18 @@ static void reasons(void)
     for (a = 0; a <= 255; a++) {
         const char *reason = captable_reason((uint8_t)a);
         check(reason != NULL && strlen(reason) > 3, "every number has a reason");
-        if (a > 18)
-            check(strcmp(reason, captable_reason(18)) == 0, "18 and above are no answers");
+        if (a > 20)
+            check(strcmp(reason, captable_reason(20)) == 0, "20 and above are no answers");
     }
-    for (a = 0; a <= 18; a++)
+    for (a = 0; a <= 20; a++)
         for (b = 0; b < a; b++)
             check(strcmp(captable_reason((uint8_t)a), captable_reason((uint8_t)b)) != 0, "reasons differ");
     check(strcmp(captable_reason(0), "done") == 0, "0 is done");
     check(strcmp(captable_reason(17), "the input has a wrong length") == 0, "17 is confine's own");
+    check(strcmp(captable_reason(19), "the object is outside the bound") == 0, "19 is the last of a chain");
 }
 
-/* The numbers of document 01, by name. */
+/* The numbers of document 01, by name, and from 18 on those of document 02. */
 static void numbers(void)
 {
     check(CAPTABLE_TABLE_UNSOUND == 1 && CAPTABLE_FIELD_INVALID == 2 && CAPTABLE_ACTOR_UNFIT == 3, "1 to 3");
@@ -45,6 +46,7 @@ static void numbers(void)
     check(CAPTABLE_RIGHT_UNLISTED == 12 && CAPTABLE_MEMBER_HELD == 13, "12 and 13");
     check(CAPTABLE_LENGTH_WRONG == 14 && CAPTABLE_VERSION_WRONG == 15, "14 and 15");
     check(CAPTABLE_BUFFER_SHORT == 16 && CAPTABLE_INPUT_WRONG == 17, "16 and 17");
+    check(CAPTABLE_OBJECT_INVALID == 18 && CAPTABLE_OUTSIDE_BOUND == 19, "18 and 19");
 }
 
 /* The stamp is the second byte, of any bytes that have one, and no other byte. */
@@ -100,7 +102,7 @@ static void requests(void)
 
 int main(void)
 {
-    check(CAPTABLE_VERSION == 0 * 65536 + 1 * 256 + 0, "the header's version is 0.1.0");
+    check(CAPTABLE_VERSION == 0 * 65536 + 2 * 256 + 0, "the header's version is 0.2.0");
     check(captable_version() == CAPTABLE_VERSION, "the archive has the header's version");
     reasons();
     numbers();

@@ -59,14 +59,16 @@ static int keeps_below(int number)
 /* All that the calls answer. Tables are kept as their images, for the padding of a struct is anything. */
 struct answers {
     uint32_t version;
-    uint8_t numbers[9];
+    uint8_t numbers[10];
     uint64_t bound, rows[4 * CAPTABLE_OBJECTS];
+    uint8_t chain[CAPTABLE_LINKS];
     uint8_t loaded[CAPTABLE_IMAGE_BYTES], after[CAPTABLE_IMAGE_BYTES], given[CAPTABLE_IMAGE_BYTES];
     uint8_t printed[CAPTABLE_PRINTED];
     size_t count;
 };
 
-/* Makes every call. The allocate is document 01's example 6 and the test its example 1. */
+/* Makes every call. The allocate is document 01's example 6 and the test its example 1; of that test's bound
+ * the chain is to object 2. */
 static void ask(const uint8_t *input, size_t length, struct answers *out)
 {
     static const uint8_t list[2] = {1, CAPTABLE_WR};
@@ -77,11 +79,13 @@ static void ask(const uint8_t *input, size_t length, struct answers *out)
     captable_table after = loaded.table;
     captable_relation relation = captable_access(loaded.table);
     captable_finding finding = captable_test(loaded.table, (uint64_t)1 << 5, list, sizeof list);
+    captable_shown shown = captable_chain(loaded.table, (uint64_t)1 << 5, list, sizeof list, 2);
 
     out->version = captable_version();
     out->count = captable_confine(input, length, out->printed);
     out->bound = finding.bound;
     memcpy(out->rows, relation.rows, sizeof out->rows);
+    memcpy(out->chain, shown.numbers, sizeof out->chain);
     out->numbers[0] = loaded.number;
     out->numbers[1] = given.number;
     out->numbers[2] = relation.number;
@@ -91,6 +95,7 @@ static void ask(const uint8_t *input, size_t length, struct answers *out)
     out->numbers[6] = captable_write(loaded.table, out->loaded, sizeof out->loaded);
     out->numbers[7] = captable_write(given.table, out->given, sizeof out->given);
     out->numbers[8] = captable_write(after, out->after, sizeof out->after);
+    out->numbers[9] = shown.number;
 }
 
 /* Was every call done, and not merely refused twice? */

@@ -2,7 +2,8 @@
  * captable.h: the proved capability table for firmware in C and C++.
  *
  * The table is one fixed table of 64 objects with eight capabilities each. Its rules are document 01's,
- * and every answer is document 01's number: 0 for done, or why not (enum captable_number).
+ * with request 2.1 of document 02, and every answer is a number of theirs: 0 for done, or why not
+ * (enum captable_number).
  *
  * Link with libcaptable.a, which `rt staticlib captable` proves and writes. It needs memcpy and memset
  * and nothing else: no heap, no global state, no other call. Every call ends, whatever it is handed.
@@ -27,10 +28,11 @@
  * 6. The processor is an x86-64 with SSE2 turned on, calls follow the System V convention (so no
  *    -mabi=ms), and memcpy and memset are what C says they are.
  *
- * The archive's code, for whoever writes the interrupt handlers: it uses the registers xmm0 to xmm7 for
- * moves and whole numbers, with no floating-point arithmetic; a handler that makes a call saves them first,
- * with the other registers that a C function may change. It keeps nothing below the stack pointer (no red
- * zone), so handlers may run on the same stack without leaving 128 bytes free for it.
+ * The archive's code, for whoever writes the interrupt handlers: it uses the registers xmm0 to xmm7, in
+ * captable_chain xmm0 to xmm13, for moves, bits and whole numbers, with no floating-point arithmetic; a handler
+ * that makes a call saves them first, with the other registers that a C function may change. It keeps nothing
+ * below the stack pointer (no red zone), so handlers may run on the same stack without leaving 128 bytes free
+ * for it.
  */
 #ifndef CAPTABLE_H
 #define CAPTABLE_H
@@ -66,9 +68,9 @@ extern "C" {
 
 /* ---- version -------------------------------------------------------------------------------------- */
 
-/* The version of the calls, 0.1.0: the first number times 65,536, the second times 256, and the third.
+/* The version of the calls, 0.2.0: the first number times 65,536, the second times 256, and the third.
  * captable_version gives that of the archive. Compare the two at start. */
-#define CAPTABLE_VERSION 256
+#define CAPTABLE_VERSION 512
 
 /* ---- sizes ---------------------------------------------------------------------------------------- */
 
@@ -78,6 +80,7 @@ extern "C" {
 #define CAPTABLE_REQUEST_BYTES 22 /* the longest request: an allocate with four pairs */
 #define CAPTABLE_PAIRS 4          /* the most pairs in the list of a send or an allocate */
 #define CAPTABLE_ENTRIES 8        /* the most entries in the list of a test */
+#define CAPTABLE_LINKS 63         /* the most links of a chain, and so the most numbers in it */
 #define CAPTABLE_PRINTED 256      /* the buffer of captable_confine */
 
 /* ---- stack ---------------------------------------------------------------------------------------- */
@@ -102,11 +105,12 @@ extern "C" {
 #define CAPTABLE_STACK_SOUND 4200
 #define CAPTABLE_STACK_ACCESS 14424
 #define CAPTABLE_STACK_TEST 12456
+#define CAPTABLE_STACK_CHAIN 14632
 #define CAPTABLE_STACK_READ 11448
 #define CAPTABLE_STACK_WRITE 6264
 #define CAPTABLE_STACK_CONFINE 12536
 #define CAPTABLE_STACK_VERSION 8
-#define CAPTABLE_STACK_MOST 14424
+#define CAPTABLE_STACK_MOST 14632
 
 /* ---- values --------------------------------------------------------------------------------------- */
 
@@ -135,7 +139,8 @@ enum captable_code {
 #define CAPTABLE_NO_REPLY 8
 
 /* Every answer of every call, and of the program `confine`. Checks run in number order, among those that
- * apply. captable_reason says each in words. */
+ * apply; whoever asks for a chain asks for a test first, and gets its refusals. captable_reason says each in
+ * words. */
 enum captable_number {
     CAPTABLE_DONE = 0,
     CAPTABLE_TABLE_UNSOUND = 1,    /* the table is not sound */
@@ -154,7 +159,9 @@ enum captable_number {
     CAPTABLE_LENGTH_WRONG = 14,    /* reading: not 1,923 bytes, or the length field says otherwise */
     CAPTABLE_VERSION_WRONG = 15,   /* reading: the version byte is not 1 */
     CAPTABLE_BUFFER_SHORT = 16,    /* writing: a buffer below 1,923 bytes */
-    CAPTABLE_INPUT_WRONG = 17      /* confine: an input of wrong length; captable_confine prints it */
+    CAPTABLE_INPUT_WRONG = 17,     /* confine: an input of wrong length; captable_confine prints it */
+    CAPTABLE_OBJECT_INVALID = 18,  /* chain: the object's number is above 63, unborn or a member */
+    CAPTABLE_OUTSIDE_BOUND = 19    /* chain: the object is outside the bound */
 };
 
 /* Why a call was answered with the number, in plain words for a log. Never NULL. */
@@ -197,6 +204,10 @@ static inline const char *captable_reason(uint8_t number)
         return "the buffer is too short";
     case CAPTABLE_INPUT_WRONG:
         return "the input has a wrong length";
+    case CAPTABLE_OBJECT_INVALID:
+        return "the object is above 63, unborn or a member";
+    case CAPTABLE_OUTSIDE_BOUND:
+        return "the object is outside the bound";
     default:
         return "no answer of the table has this number";
     }
@@ -244,6 +255,14 @@ typedef struct captable_finding {
     uint8_t number;
 } captable_finding;
 
+/* A chain of links from the stand-in to an object of the bound: its `count` object numbers in turn, the
+ * stand-in left out and the object last. What follows them is zero; on every refusal there are none. */
+typedef struct captable_shown {
+    uint8_t numbers[CAPTABLE_LINKS];
+    uint8_t count;
+    uint8_t number;
+} captable_shown;
+
 /* The layout that the archive was proved for. A compiler that lays the structs out otherwise stops here. */
 #define CAPTABLE_ASSERT(name, holds) typedef char captable_assert_##name[(holds) ? 1 : -1]
 CAPTABLE_ASSERT(capability, sizeof(captable_capability) == 2);
@@ -260,6 +279,9 @@ CAPTABLE_ASSERT(relation, sizeof(captable_relation) == 2056);
 CAPTABLE_ASSERT(relation_number, offsetof(captable_relation, number) == 2048);
 CAPTABLE_ASSERT(finding, sizeof(captable_finding) == 16);
 CAPTABLE_ASSERT(finding_number, offsetof(captable_finding, number) == 8);
+CAPTABLE_ASSERT(shown, sizeof(captable_shown) == 65);
+CAPTABLE_ASSERT(shown_count, offsetof(captable_shown, count) == 63);
+CAPTABLE_ASSERT(shown_number, offsetof(captable_shown, number) == 64);
 
 /* ---- a slot --------------------------------------------------------------------------------------- */
 
@@ -319,6 +341,18 @@ CAPTABLE_ANSWER captable_relation captable_access(captable_table table);
  */
 CAPTABLE_ANSWER captable_finding captable_test(captable_table table, uint64_t members, const uint8_t *list,
                                                size_t length);
+
+/*
+ * Show me the chain: how does an object come to be in the bound of that test? The answer is a shortest chain
+ * of links to it from the stand-in, which is in the place of all members and holds exactly the list; among
+ * chains of one length it is the one whose numbers come first, compared from the stand-in's end. A link is one
+ * capability that a non-member holds or that is listed: rd, wr and tx lead either way, wk from target to holder.
+ *
+ * Members and list are those of captable_test, whose refusals come first. Then the number is 18 for an object
+ * above 63, unborn or a member, and 19 for one outside the bound.
+ */
+CAPTABLE_ANSWER captable_shown captable_chain(captable_table table, uint64_t members, const uint8_t *list,
+                                              size_t length, uint8_t object);
 
 /* Reads an image; on every refusal with the wholly unborn table. */
 CAPTABLE_ANSWER captable_outcome captable_read(const uint8_t *image, size_t length);

@@ -1,5 +1,6 @@
 //! The capability table of document 01 as a model in plain safe Rust, without dependencies. It is
-//! written from that document alone, so that other implementations can be compared with it.
+//! written from that document and from the requests of document 02 that have landed, and from these
+//! alone, so that other implementations can be compared with it.
 //!
 //! Document 01, section by section:
 //!
@@ -16,6 +17,12 @@
 //! | What every contract owes | none: it is about proofs |
 //! | Where earlier tables went astray | `tests/sentences.rs`, a test each |
 //! | Forms for parts of the code | none: it is about the proved code |
+//!
+//! Document 02, the requests that have landed:
+//!
+//! | request | file |
+//! |---|---|
+//! | 2.1 Show me the chain | `chain`: checks, links, the shortest chain that comes first |
 //!
 //! Beside these, `links` leads to the bound a second way, as the proved code has it too: what can be
 //! reached from the holder of the list, link by link. Of requests and lists as bytes document 01 says no
@@ -42,3 +49,6 @@ pub mod refusal;
 pub mod image;
 
 pub mod confine;
+
+// In the order of document 02.
+pub mod chain;

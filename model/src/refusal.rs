@@ -1,5 +1,6 @@
-//! The causes for which a request, a test, an image or an input is turned down.
-//! Each has the number of document 01; the number 0 stands for done or accepted.
+//! The causes for which a request, a test, an image, an input or the question for a chain is turned
+//! down. Each has the number of document 01, from 18 on that of document 02; the number 0 stands for
+//! done or accepted.
 
 /// A cause of refusal. The discriminant is the number that is given to the caller.
 #[derive(Clone, Copy, Debug, PartialEq, Eq)]
@@ -22,6 +23,8 @@ pub enum Refusal {
     ImageVersion = 15,
     BufferTooShort = 16,
     InputLength = 17,
+    ObjectNotBornNonMember = 18,
+    ObjectOutsideBound = 19,
 }
 
 impl Refusal {

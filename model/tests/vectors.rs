@@ -1,4 +1,4 @@
-//! The test vectors in `vectors/`: steps, potential access, tests and inputs of `confine`.
+//! The test vectors in `vectors/`: steps, potential access, tests, inputs of `confine` and chains.
 //! Every line of every file is compared in full.
 
 mod json;
@@ -8,6 +8,7 @@ use std::path::PathBuf;
 
 use json::Json;
 use yavrinks_model::access::{potential_access, Access};
+use yavrinks_model::chain::chain;
 use yavrinks_model::confine::confine;
 use yavrinks_model::confinement::confinement_test;
 use yavrinks_model::set;
@@ -43,9 +44,12 @@ fn byte_or_zero(value: &Json, key: &str) -> u8 {
     value.get(key).map_or(0, byte)
 }
 
+fn bytes(value: &Json) -> Vec<u8> {
+    value.as_list().expect("list").iter().map(byte).collect()
+}
+
 fn number_set(value: &Json) -> u64 {
-    let numbers: Vec<u8> = value.as_list().expect("list").iter().map(byte).collect();
-    set::of(&numbers)
+    set::of(bytes(value))
 }
 
 fn pair(value: &Json) -> (u8, u8) {
@@ -180,4 +184,20 @@ fn confine_cases() {
         }
     }
     assert_eq!(count, 48);
+}
+
+#[test]
+fn chains() {
+    let lines = lines("2.1/chains.jsonl");
+    assert_eq!(lines.len(), 161);
+    for (line, value) in lines.iter().enumerate() {
+        let outcome = chain(
+            &table(field(value, "table")),
+            number_set(field(value, "members")),
+            &pairs(field(value, "list")),
+            byte(field(value, "object")),
+        );
+        let expected = (byte(field(value, "number")), bytes(field(value, "chain")));
+        assert_eq!(outcome, expected, "line {}", line + 1);
+    }
 }

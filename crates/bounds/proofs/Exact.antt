@@ -32,7 +32,7 @@ module _ (t : Table) (members : ℕ) (list : List Capability) where
   unfolding testNode
   node-low x e = node-low-by (has x members) x e
 
-  bound-bit : (y : ℕ) → y < 64 → has y (boundOf t members list) ≡ (has y (influencedSet (testHolding t members list) (standIn members)) && not (has y members))
+  pub bound-bit : (y : ℕ) → y < 64 → has y (boundOf t members list) ≡ (has y (influencedSet (testHolding t members list) (standIn members)) && not (has y members))
   unfolding boundOf
   bound-bit y h = has-less y _ members h
 

@@ -9,15 +9,18 @@ use Rattle.access.specs.declared.Access.{Access}
 use Rattle.access.specs.Answers.{accessNumber}
 use Rattle.confinement.specs.declared.Tested.{Tested}
 use Rattle.confinement.specs.Refusals.{verdictNumber}
+use Rattle.chains.specs.declared.Shown.{Shown}
+use Rattle.chains.specs.Answers.{chainNumber}
 use Rattle.image.specs.declared.Loaded.{Loaded}
 use Rattle.image.specs.Images.{readNumber}
 use Rattle.captable.specs.declared.Outcome.{Outcome}
 use Rattle.captable.specs.declared.Relation.{Relation}
 use Rattle.captable.specs.declared.Finding.{Finding}
+use Rattle.captable.specs.declared.ShownChain.{ShownChain}
 
--- the version of the calls, 0.1.0: the first number times 65,536, the second times 256, the third
+-- the version of the calls, 0.2.0: the first number times 65,536, the second times 256, the third
 abbrev pub version : ℕ
-version = 256
+version = 512
 
 abbrev pub soundNumber : Table → ℕ
 soundNumber t = cond (sound t) 0 1
@@ -30,6 +33,9 @@ related a = record { rows = a .rows; number = accessNumber (a .reply) }
 
 abbrev pub found : Tested → Finding
 found r = record { bound = r .bound; number = verdictNumber (r .verdict) }
+
+abbrev pub chained : Shown → ShownChain
+chained s = record { numbers = s .numbers; count = s .count; number = chainNumber (s .reply) }
 
 abbrev pub loaded : Loaded → Outcome
 loaded l = record { table = l .table; number = readNumber (l .reply) }

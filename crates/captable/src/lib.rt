@@ -1,6 +1,7 @@
 // The proved table as the case's firmware links it from C or Rust. Everything that crosses is a number, a slice of bytes (its
 // pointer, then its length) or a struct of document 01's fields. The step has its table lent; the other calls take the table by
-// value, so that nothing can change it between their checks and their answer. Every answer is document 01's number, 0 for done.
+// value, so that nothing can change it between their checks and their answer. Every answer is one of document 01's numbers, or from 18 on of
+// document 02's; 0 is done.
 use table::Table;
 ghost use mathlib.Core.Path.{_≡_};
 ghost use mathlib.Core.List.{_++_};
@@ -9,12 +10,13 @@ ghost use Rattle.refusals.specs.Replies.{number as replyNumber};
 ghost use Rattle.steps.specs.Steps.{stepOf};
 ghost use Rattle.access.specs.Answers.{accessOf};
 ghost use Rattle.confinement.specs.Tests.{testOf};
+ghost use Rattle.chains.specs.Answers.{chainOf};
 ghost use Rattle.image.specs.Images.{readOf};
 ghost use Rattle.image_out.specs.Written.{writeNumber, writeRefusal, writtenOf};
 ghost use Rattle.report.specs.Printed.{printedOf};
 ghost use Rattle.wire.specs.Wires.{askFrom};
 ghost use Rattle.entries.specs.Entries.{entriesIn};
-ghost use Rattle.captable.specs.Crossing.{version, soundNumber, stepped, related, found, loaded};
+ghost use Rattle.captable.specs.Crossing.{version, soundNumber, stepped, related, found, chained, loaded};
 
 // A table that a step or a reading of an image gives, and its number. The table stands first, so that no copy of it has to be moved.
 #[repr(C)]
@@ -38,12 +40,20 @@ pub struct Finding {
     pub number: u8,
 }
 
+// The chain that brings an object into the bound: `count` numbers, zero past them; none on every refusal.
+#[repr(C)]
+pub struct ShownChain {
+    pub numbers: [u8; 63],
+    pub count: u8,
+    pub number: u8,
+}
+
 // The version of these calls, for a caller to hold to that of the header it was built with.
 #[no_mangle]
 pub extern "C" fn captable_version() -> u32
     ensures { λ r. ⌜ r ≡ version ⌝ }
 {
-    256
+    512
 }
 
 // 0 for a sound table, 1 for any other.
@@ -126,6 +136,23 @@ pub extern "C" fn captable_test(table: Table, members: u64, list: &[u8]) -> Find
     let number = numbers::of_verdict(verdict);
     Finding {
         bound: tested.bound,
+        number: number,
+    }
+}
+
+// A shortest chain of links from the stand-in to an object of the bound, the first of its length; the test is that of `captable_test`.
+#[no_mangle]
+pub extern "C" fn captable_chain(table: Table, members: u64, list: &[u8], object: u8) -> ShownChain
+    ensures { λ r. ⌜ r ≡ chained (chainOf table members (entriesIn (now (list .entry))) object) ⌝ }
+{
+    let entries = entries::list_of(list);
+    let shown = chains::chain(table, members, entries, object);
+    let reply = shown.reply;
+    let numbers = shown.numbers;
+    let number = answers::of_chain(reply);
+    ShownChain {
+        numbers: numbers,
+        count: shown.count,
         number: number,
     }
 }

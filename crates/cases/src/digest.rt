@@ -66,14 +66,19 @@ pub fn of_table(t: Table) -> u32 {
     all
 }
 
-pub fn of_space(bytes: &[u8; 4096]) -> u32 {
+pub fn of_bytes(bytes: &[u8]) -> u32 {
     let mut all = START;
     let mut i: usize = 0;
-    while i < 4096 {
+    while i < bytes.len() {
         all = with_byte(all, bytes[i]);
         i = i + 1;
     }
     all
+}
+
+// All of a buffer.
+pub fn of_space(bytes: &[u8; 4096]) -> u32 {
+    of_bytes(bytes)
 }
 
 // The words of a relation or of links.

@@ -1,4 +1,9 @@
--- Chains over an edge relation: which is shortest, and which of the shortest comes first; the links of the test.
-pub mod Lowest
-pub mod Shortest
+-- Links and chains of an accepted test; the claims of 2.1.
 pub mod TestLinks
+pub mod LinkFacts
+pub mod BoundChains
+pub mod Answered
+pub mod Claims
+pub mod LessLoop
+pub mod Words
+pub mod Ways

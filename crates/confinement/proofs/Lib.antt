@@ -1,3 +1,4 @@
 pub mod TestFacts
 pub mod Scans
 pub mod Verdicts
+pub mod Held

@@ -84,13 +84,17 @@ held-whole bytes e h =
     ap entriesOf (sym (held-short bytes e h _ refl))
     ∙ ap (λ (k : ℕ). tabulate k (λ i. getD (padded 8 emptySlot list) i emptySlot)) (sym z) ∙ padded-all 8 emptySlot list (omega arith) ∙ sym (entries-whole bytes e)
 
-pub test-bytes : (t : Table) (members : ℕ) (bytes : List ℕ) → testOf t members (entriesOf (heldEntries bytes)) ≡ testOf t members (entriesIn bytes)
-test-bytes t members bytes =
+-- bytes that are held whole, or as a list that is too long, which they are
+pub by-length : {P : Type 0} (bytes : List ℕ) → (entriesOf (heldEntries bytes) ≡ entriesIn bytes → P) → (8 < length (entriesIn bytes) → heldEntries bytes ≡ tooLong → P) → P
+by-length bytes f g =
     byEq (length bytes % 2) 0
     (λ e. byCases (leb (length bytes / 2) 8)
-    (λ q. ap (testOf t members) (held-whole bytes e (leb-true (length bytes / 2) 8 q)))
+    (λ q. f (held-whole bytes e (leb-true (length bytes / 2) 8 q)))
     (λ q. let h = leb-false (length bytes / 2) 8 q in
-    ap (λ (l : EntryList). testOf t members (entriesOf l)) (sym (held-long bytes e h))
-    ∙ long-any t members (entriesIn bytes) (rw (entries-whole bytes e, length-tabulate (length bytes / 2) (entryIn bytes)) h)))
-    (λ n. ap (λ (l : EntryList). testOf t members (entriesOf l)) (sym (held-odd bytes n))
-    ∙ long-any t members (entriesIn bytes) (rw (entries-odd bytes n) (omega arith)))
+    g (rw (entries-whole bytes e, length-tabulate (length bytes / 2) (entryIn bytes)) h) (sym (held-long bytes e h))))
+    (λ n. g (rw (entries-odd bytes n) (omega arith)) (sym (held-odd bytes n)))
+
+pub test-bytes : (t : Table) (members : ℕ) (bytes : List ℕ) → testOf t members (entriesOf (heldEntries bytes)) ≡ testOf t members (entriesIn bytes)
+test-bytes t members bytes = by-length bytes
+    (ap (testOf t members))
+    (λ h e. ap (λ (l : EntryList). testOf t members (entriesOf l)) e ∙ long-any t members (entriesIn bytes) h)

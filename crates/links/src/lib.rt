@@ -103,7 +103,7 @@ pub fn grown(words: &[u64; 64], s: u64) -> u64
 }
 
 // x alone; no number above 63 is in a set.
-fn alone(x: u8) -> u64
+pub fn alone(x: u8) -> u64
     ensures { λ r. ⌜ r ≡ only x ⌝ }
 {
     if x < 64 { mask::with(0, x) } else { 0 }

@@ -8,9 +8,9 @@ use native.Mathlib.Omega.{arith}
 use lib.Dec.{eqb}
 use lib.Pow.{pow-mono}
 use borrow.Author.Tests.{eqb-true, eqb-false, eq-eqb, not-true}
-use Rattle.mask.specs.Sets.{has, bits, bitOf, allBelow, including, excluding, unionOf, lessOf, subsetOf, disjointOf}
+use Rattle.mask.specs.Sets.{has, bits, bitOf, allBelow, anyBelow, including, excluding, unionOf, commonOf, lessOf, subsetOf, disjointOf}
 use Rattle.mask.proofs.Tests.{byCases, bool-ext, imply-use, apart-use}
-use Rattle.mask.proofs.Below.{all-at, all-intro}
+use Rattle.mask.proofs.Below.{all-at, all-intro, all-fails, any-elim, any-none}
 
 -- one digit further up
 pub has-suc : (k m : ℕ) → has (suc k) m ≡ has k (m / 2)
@@ -89,6 +89,10 @@ pub has-union : (k a b : ℕ) → k < 64 → has k (unionOf a b) ≡ (has k a ||
 unfolding unionOf
 has-union k a b h = has-bits 64 k _ h
 
+pub has-common : (k a b : ℕ) → k < 64 → has k (commonOf a b) ≡ (has k a && has k b)
+unfolding commonOf
+has-common k a b h = has-bits 64 k _ h
+
 pub has-less : (k a b : ℕ) → k < 64 → has k (lessOf a b) ≡ (has k a && not (has k b))
 unfolding lessOf
 has-less k a b h = has-bits 64 k _ h
@@ -100,3 +104,9 @@ subset-at a b k e h = imply-use (has k a) (has k b) (all-at 64 _ e k h)
 pub disjoint-at : (a b k : ℕ) → disjointOf a b ≡ true → k < 64 → has k a ≡ true → has k b ≡ false
 unfolding disjointOf
 disjoint-at a b k e h = apart-use (has k a) (has k b) (all-at 64 _ e k h)
+
+pub shared : (a b : ℕ) → not (disjointOf a b) ≡ anyBelow 64 (λ k. has k a && has k b)
+unfolding disjointOf
+shared a b = byCases (anyBelow 64 (λ k. has k a && has k b))
+    (λ e. any-elim 64 (λ k. has k a && has k b) e (λ k h q. ap not (all-fails 64 _ k h (ap not q))) ∙ sym e)
+    (λ e. ap not (all-intro 64 _ (λ k h. ap not (any-none 64 (λ i. has i a && has i b) e k h))) ∙ sym e)

@@ -8,7 +8,7 @@ use native.Mathlib.Omega.{arith}
 use lib.Dec.{ltb, eqb}
 use lib.Bits.{bitAnd, bitOr, bitXor, and-shr, or-shr, xor-shr, and-mod, or-mod, xor-mod, and-lt, or-lt, and-mask, mask-lt, xor-add-and}
 use borrow.Author.Tests.{ltb-true, ltb-false, eqb-true}
-use Rattle.mask.specs.Sets.{has, allBelow, including, excluding, unionOf, lessOf, subsetOf, disjointOf}
+use Rattle.mask.specs.Sets.{has, allBelow, including, excluding, unionOf, commonOf, lessOf, subsetOf, disjointOf}
 use Rattle.mask.proofs.Tests.{byCases, same, same-eq, not-less}
 use Rattle.mask.proofs.Below.{all-at, all-ext}
 use Rattle.mask.proofs.Bits.{as-bits, is-empty, has-high}
@@ -76,6 +76,10 @@ has-one k n hk hn =
 pub or-union : (a b : ℕ) → a < 2 ^ 64 → b < 2 ^ 64 → bitOr a b ≡ unionOf a b
 unfolding unionOf
 or-union a b ha hb = as-bits 64 (bitOr a b) _ (or-lt 64 a b ha hb) (λ k hk. has-or k a b)
+
+pub and-common : (a b : ℕ) → a < 2 ^ 64 → b < 2 ^ 64 → bitAnd a b ≡ commonOf a b
+unfolding commonOf
+and-common a b ha hb = as-bits 64 (bitAnd a b) _ (and-lt 64 a b ha hb) (λ k hk. has-and k a b)
 
 has-and-not : (k a b : ℕ) → k < 64 → b < 2 ^ 64 → has k (bitAnd a (2 ^ 64 - 1 - b)) ≡ (has k a && not (has k b))
 has-and-not k a b hk hb = has-and k a (2 ^ 64 - 1 - b) ∙ ap (λ (t : Bool). has k a && t) (has-not k b hk hb)

@@ -40,6 +40,10 @@ excluding n set = bits 64 (λ k. has k set && not (eqb k n))
 unfoldable pub unionOf : ℕ → ℕ → ℕ
 unionOf a b = bits 64 (λ k. has k a || has k b)
 
+-- what is in both
+unfoldable pub commonOf : ℕ → ℕ → ℕ
+commonOf a b = bits 64 (λ k. has k a && has k b)
+
 -- what is in the first and not in the second
 unfoldable pub lessOf : ℕ → ℕ → ℕ
 lessOf a b = bits 64 (λ k. has k a && not (has k b))

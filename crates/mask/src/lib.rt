@@ -2,7 +2,7 @@
 // Every set step of the table goes through these functions.
 ghost use mathlib.Core.Path.{_≡_};
 ghost use Prim.Native.Nat.{_<_};
-ghost use Rattle.mask.specs.Sets.{has as hasBit, including, excluding, unionOf, lessOf, subsetOf, disjointOf};
+ghost use Rattle.mask.specs.Sets.{has as hasBit, including, excluding, unionOf, commonOf, lessOf, subsetOf, disjointOf};
 
 // Is n in the set?
 pub fn has(set: u64, n: u8) -> bool
@@ -32,6 +32,13 @@ pub fn union(a: u64, b: u64) -> u64
     ensures { λ r. ⌜ r ≡ unionOf a b ⌝ }
 {
     a | b
+}
+
+// What is in a and in b.
+pub fn common(a: u64, b: u64) -> u64
+    ensures { λ r. ⌜ r ≡ commonOf a b ⌝ }
+{
+    a & b
 }
 
 // What is in a and not in b.

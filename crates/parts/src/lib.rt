@@ -5,4 +5,5 @@ pub mod images; // images.rt: images read, and tables written
 pub mod linked; // linked.rt: links
 pub mod output; // output.rt: the words and numbers of a line
 pub mod relations; // relations.rt: potential access
+pub mod shown; // shown.rt: chains
 pub mod verdicts; // verdicts.rt: confinement tests

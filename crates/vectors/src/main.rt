@@ -5,6 +5,7 @@ use parts::images;
 use parts::linked;
 use parts::output;
 use parts::relations;
+use parts::shown;
 use parts::verdicts;
 use turns::Turn;
 
@@ -20,6 +21,7 @@ enum Part {
     Tests,
     Relations,
     Links,
+    Shown,
 }
 
 // One case, or the end of the file. Only a chain uses and changes the table.
@@ -33,6 +35,7 @@ fn turn(part: Part, fd: i32, number: u64, t: table::Table) -> Turn {
         Part::Tests => turns::kept(verdicts::case(fd, number), t),
         Part::Relations => turns::kept(relations::case(fd, number), t),
         Part::Links => turns::kept(linked::case(fd, number), t),
+        Part::Shown => turns::kept(shown::case(fd, number), t),
     }
 }
 
@@ -57,8 +60,13 @@ fn cases(part: Part, fd: i32, start: table::Table) -> u64 {
 fn start(part: Part, fd: i32) -> table::Table {
     match part {
         Part::Chain | Part::Lent => turns::chain_start(fd),
-        Part::Images | Part::Writes | Part::Steps | Part::Tests | Part::Relations | Part::Links =>
-            table::unborn_table(),
+        Part::Images
+        | Part::Writes
+        | Part::Steps
+        | Part::Tests
+        | Part::Relations
+        | Part::Links
+        | Part::Shown => table::unborn_table(),
     }
 }
 
@@ -117,5 +125,10 @@ fn main() {
         Part::Links,
         b"tests",
         b"links of the same: case, table's links, with the list's holder, what it reaches\n",
+    );
+    run(
+        Part::Shown,
+        b"shown",
+        b"chains shown: case, number, count, numbers, digest of all 63\n",
     );
 }

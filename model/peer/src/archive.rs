@@ -11,8 +11,8 @@ extern "C" {
     fn peer_scan(table: *const raw::Table) -> u8;
 }
 
-/// The version that the comparison is for, 0.1.0: the first number times 65,536, the second times 256.
-pub const VERSION: u32 = 256;
+/// The version that the comparison is for, 0.2.0: the first number times 65,536, the second times 256.
+pub const VERSION: u32 = 512;
 
 /// The archive's calls, and the scan in C.
 pub trait Calls {
@@ -44,6 +44,18 @@ pub trait Calls {
     fn test(&self, table: &mut raw::Table, members: u64, list: &mut [u8]) -> raw::Finding {
         // SAFETY: pointer and length are of one slice.
         unsafe { raw::captable_test(*table, members, list.as_mut_ptr(), list.len()) }
+    }
+
+    /// The chain to an object of the bound.
+    fn chain(
+        &self,
+        table: &mut raw::Table,
+        members: u64,
+        list: &mut [u8],
+        object: u8,
+    ) -> raw::Shown {
+        // SAFETY: pointer and length are of one slice.
+        unsafe { raw::captable_chain(*table, members, list.as_mut_ptr(), list.len(), object) }
     }
 
     /// Reads an image.

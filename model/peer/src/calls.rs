@@ -14,6 +14,7 @@ pub enum Call {
     Sound,
     Access,
     Test,
+    Chain,
     Read,
     Write,
     Confine,
@@ -21,12 +22,13 @@ pub enum Call {
 }
 
 impl Call {
-    pub const ALL: [Call; 9] = [
+    pub const ALL: [Call; 10] = [
         Call::Step,
         Call::Stepped,
         Call::Sound,
         Call::Access,
         Call::Test,
+        Call::Chain,
         Call::Read,
         Call::Write,
         Call::Confine,
@@ -41,6 +43,7 @@ impl Call {
             Call::Sound => "captable_sound",
             Call::Access => "captable_access",
             Call::Test => "captable_test",
+            Call::Chain => "captable_chain",
             Call::Read => "captable_read",
             Call::Write => "captable_write",
             Call::Confine => "captable_confine",
@@ -67,6 +70,8 @@ pub struct Sample {
     pub members: u64,
     /// The request, the list, the image, the input or the buffer.
     pub bytes: Vec<u8>,
+    /// The object whose chain is asked for.
+    pub object: u8,
 }
 
 /// The number that the archive gives.
@@ -78,6 +83,10 @@ pub fn answer(call: Call, sample: &Sample) -> u8 {
         Call::Sound => Archive.sound(&mut table),
         Call::Access => Archive.access(&mut table).number,
         Call::Test => Archive.test(&mut table, sample.members, &mut bytes).number,
+        Call::Chain => {
+            let shown = Archive.chain(&mut table, sample.members, &mut bytes, sample.object);
+            shown.number
+        }
         Call::Read => Archive.read(&mut bytes).number,
         Call::Write => Archive.write(&mut table, &mut bytes),
         Call::Confine => {

@@ -2,17 +2,19 @@
 //! that are refused, on table K, on the filled table, and on long chains where reaching takes longest.
 
 use yavrinks_model::access::potential_access;
+use yavrinks_model::chain::chain;
 use yavrinks_model::confine::confine;
 use yavrinks_model::confinement::{confinement_test, Entry};
 use yavrinks_model::image::{self, IMAGE_LENGTH};
 use yavrinks_model::set;
 use yavrinks_model::step::step;
 use yavrinks_model::table::Table;
-use yavrinks_model::wire::{decode_list, encode};
-use yavrinks_tools::generate::{encode_input, printed_number, ConfinementCase};
+use yavrinks_model::wire::encode;
+use yavrinks_tools::generate::{encode_input, printed_number, ConfinementCase, ShownCase};
 
 use crate::calls::{Call, Sample};
-use crate::samples::{chain_table, held_list, places, requests, unsound_at_the_end, Place};
+use crate::samples::{chain_table, farthest, own_test, places, requests};
+use crate::samples::{unsound_at_the_end, Place};
 
 /// The inputs of a call.
 pub fn samples(call: Call) -> Vec<Sample> {
@@ -22,6 +24,7 @@ pub fn samples(call: Call) -> Vec<Sample> {
         Call::Sound => tables().into_iter().map(sound).collect(),
         Call::Access => tables().into_iter().map(access).collect(),
         Call::Test => tests().into_iter().map(test).collect(),
+        Call::Chain => tests().into_iter().flat_map(chains).map(shown).collect(),
         Call::Read => places.iter().flat_map(reads).collect(),
         Call::Write => places.iter().flat_map(writes).collect(),
         Call::Confine => tests().into_iter().map(confined).chain([short()]).collect(),
@@ -40,6 +43,7 @@ fn steps(place: &Place) -> Vec<Sample> {
         table: table.clone(),
         members: 0,
         bytes: encode(&request),
+        object: 0,
     };
     let unsound = first.map(|(_, request)| of(&unsound, "unsound table", request));
     let asked = asked.into_iter();
@@ -70,6 +74,7 @@ fn sound((name, table): (String, Table)) -> Sample {
         table,
         members: 0,
         bytes: Vec::new(),
+        object: 0,
     }
 }
 
@@ -80,6 +85,7 @@ fn access((name, table): (String, Table)) -> Sample {
         table,
         members: 0,
         bytes: Vec::new(),
+        object: 0,
     }
 }
 
@@ -87,8 +93,8 @@ fn access((name, table): (String, Table)) -> Sample {
 fn tests() -> Vec<(String, ConfinementCase)> {
     let mut tests = Vec::new();
     for place in places() {
+        let list = own_test(&place).list;
         let (name, table, member) = (place.name, place.table, place.member);
-        let list = decode_list(&held_list(&table, member));
         let mut add = |what: &str, table: &Table, members: u64, list: &[Entry]| {
             let case = ConfinementCase {
                 table: table.clone(),
@@ -127,9 +133,49 @@ fn test((name, case): (String, ConfinementCase)) -> Sample {
     Sample {
         name,
         number: confinement_test(&case.table, case.members, &case.list).0,
-        bytes: case.list.iter().flat_map(|&(a, b)| [a, b]).collect(),
+        bytes: list_bytes(&case),
         table: case.table,
         members: case.members,
+        object: 0,
+    }
+}
+
+fn list_bytes(case: &ConfinementCase) -> Vec<u8> {
+    case.list.iter().flat_map(|&(a, b)| [a, b]).collect()
+}
+
+/// What is asked of a test: the chain to the object farthest off; and where the test is accepted also that
+/// to a member and to an object outside the bound, if there is one.
+fn chains((name, test): (String, ConfinementCase)) -> Vec<(String, ShownCase)> {
+    let (number, bound) = confinement_test(&test.table, test.members, &test.list);
+    let of = |name: String, object| {
+        let test = test.clone();
+        (name, ShownCase { test, object })
+    };
+    if number != 0 {
+        return vec![of(name, 0)];
+    }
+    let outside = test.table.born() & !test.members & !bound;
+    let mut asked: Vec<_> = farthest(&test)
+        .map(|n| of(name.clone(), n))
+        .into_iter()
+        .collect();
+    for (what, objects) in [("member", test.members), ("outside", outside)] {
+        let object = set::numbers(objects).next();
+        asked.extend(object.map(|n| of(format!("{what}, {name}"), n)));
+    }
+    asked
+}
+
+fn shown((name, case): (String, ShownCase)) -> Sample {
+    let ShownCase { test, object } = case;
+    Sample {
+        name,
+        number: chain(&test.table, test.members, &test.list, object).0,
+        bytes: list_bytes(&test),
+        table: test.table,
+        members: test.members,
+        object,
     }
 }
 
@@ -149,6 +195,7 @@ fn input(name: String, bytes: Vec<u8>) -> Sample {
         table: Table::unborn(),
         members: 0,
         bytes,
+        object: 0,
     }
 }
 
@@ -160,6 +207,7 @@ fn nothing() -> Sample {
         table: Table::unborn(),
         members: 0,
         bytes: Vec::new(),
+        object: 0,
     }
 }
 
@@ -180,6 +228,7 @@ fn reads(place: &Place) -> Vec<Sample> {
         table: Table::unborn(),
         members: 0,
         bytes,
+        object: 0,
     };
     images.into_iter().map(of).collect()
 }
@@ -198,6 +247,7 @@ fn writes(place: &Place) -> Vec<Sample> {
         table: table.clone(),
         members: 0,
         bytes: vec![0; length],
+        object: 0,
     };
     cases.into_iter().map(of).collect()
 }

@@ -1,9 +1,11 @@
-//! The tables and requests that time, stack and instructions are measured on.
+//! The tables, tests and requests that time, stack and instructions are measured on.
 
+use yavrinks_model::links::Links;
 use yavrinks_model::set;
 use yavrinks_model::step::{step_in_place, Code, Fields, Request};
-use yavrinks_model::table::{Capability, Record, Table, RD, WR};
-use yavrinks_tools::generate::{numbers_where, sound_table, Shape};
+use yavrinks_model::table::{Capability, Record, Table, RD, WK, WR};
+use yavrinks_model::wire::decode_list;
+use yavrinks_tools::generate::{numbers_where, sound_table, ConfinementCase, Shape};
 use yavrinks_tools::rng::Rng;
 
 /// A table to measure on, with an object that no other names: the member of its confinement test.
@@ -29,6 +31,15 @@ pub fn places() -> [Place; 2] {
             table: filled,
         },
     ]
+}
+
+/// 64 objects in a row, of which the first is the member: the chain to the last is as long as a chain can be.
+pub fn row() -> Place {
+    Place {
+        name: "64 in a row",
+        table: chain_table(false),
+        member: 0,
+    }
 }
 
 /// Table K of document 01 with a few more capabilities, so that each request can be done.
@@ -96,6 +107,31 @@ pub fn held_list(table: &Table, member: u8) -> Vec<u8> {
     held.filter(|capability| capability.target != member)
         .flat_map(|capability| [capability.target, capability.rights])
         .collect()
+}
+
+/// The test of a place's member alone, with the list of what it holds: accepted.
+pub fn own_test(place: &Place) -> ConfinementCase {
+    ConfinementCase {
+        table: place.table.clone(),
+        members: set::single(place.member),
+        list: decode_list(&held_list(&place.table, place.member)),
+    }
+}
+
+/// The object of an accepted test whose chain has the most links, and of several the lowest. Each round adds
+/// the objects one link from what is there; the last ones are the farthest.
+pub fn farthest(test: &ConfinementCase) -> Option<u8> {
+    let links = Links::among(&test.table, test.table.born() & !test.members);
+    let listed = test.list.iter().filter(|entry| entry.1 != WK);
+    let (mut there, mut added) = (0, set::of(listed.map(|entry| entry.0)));
+    let mut last = None;
+    while added != 0 {
+        last = set::numbers(added).next();
+        there |= added;
+        let linked = set::numbers(added).map(|n| links.from[usize::from(n)]);
+        added = linked.fold(0, |all, more| all | more) & !there;
+    }
+    last
 }
 
 /// Each of the eight requests, done, then one refused by 6 and a nonsense code.

@@ -4,6 +4,8 @@
 
 mod common;
 
+use std::collections::BTreeSet;
+
 use common::functions;
 
 /// Every instruction of the archive, with the function that it is in.
@@ -26,22 +28,27 @@ fn vectors(operands: &str) -> Vec<&str> {
 }
 
 #[test]
-fn the_registers_are_xmm0_to_xmm7() {
-    let mut used: Vec<String> = instructions()
-        .iter()
-        .flat_map(|(_, _, operands)| vectors(operands).into_iter().map(String::from))
-        .collect();
-    used.sort();
-    used.dedup();
-    let expected: Vec<String> = (0..8).map(|k| format!("xmm{k}")).collect();
-    assert_eq!(used, expected);
+fn the_registers_are_xmm0_to_xmm7_and_of_a_chain_to_xmm13() {
+    let (mut used, mut by_chain) = (BTreeSet::new(), BTreeSet::new());
+    for (name, _, operands) in instructions() {
+        let registers = vectors(&operands).into_iter().map(String::from);
+        if name == "captable_chain" {
+            by_chain.extend(registers);
+        } else {
+            used.extend(registers);
+        }
+    }
+    let first = |count: u8| (0..count).map(|k| format!("xmm{k}")).collect();
+    assert_eq!(used, first(8));
+    assert_eq!(by_chain, first(14));
 }
 
 #[test]
 fn vectors_are_moved_and_whole_numbers_alone() {
     // Moves, shuffles and bit operations; all that begins with p is on whole numbers.
-    const OTHERS: [&str; 8] = [
-        "movaps", "movups", "movdqa", "movdqu", "movd", "movq", "xorps", "shufps",
+    const OTHERS: [&str; 12] = [
+        "movaps", "movups", "movapd", "movsd", "movdqa", "movdqu", "movd", "movq", "xorps",
+        "andpd", "orpd", "shufps",
     ];
     for (name, mnemonic, operands) in instructions() {
         let known = mnemonic.starts_with('p') || OTHERS.contains(&mnemonic.as_str());

@@ -1,12 +1,16 @@
 //! What is measured is what it says: every request and every call answers as it should.
 
+use std::collections::BTreeSet;
+
+use yavrinks_model::chain::chain;
 use yavrinks_model::confinement::confinement_test;
 use yavrinks_model::set;
 use yavrinks_model::step::step;
 use yavrinks_model::wire::decode_list;
 use yavrinks_peer::calls::{answer, Call};
 use yavrinks_peer::cases::samples;
-use yavrinks_peer::samples::{held_list, places, requests};
+use yavrinks_peer::samples::{farthest, held_list, own_test, places, requests, row};
+use yavrinks_tools::generate::{CONFINEMENT_NUMBERS, SHOWN_NUMBERS};
 
 #[test]
 fn both_tables_have_all_ten_requests() {
@@ -28,6 +32,31 @@ fn both_tables_have_an_accepted_test() {
         let (number, bound) = confinement_test(&place.table, set::single(place.member), &list);
         assert_eq!(number, 0, "{}", place.name);
         assert_ne!(bound, 0, "{}", place.name);
+    }
+}
+
+/// No object has a longer chain than the one that is measured, and none below it as long a one.
+#[test]
+fn the_chain_that_is_measured_is_the_longest() {
+    for place in places().into_iter().chain([row()]) {
+        let case = own_test(&place);
+        let links = |object| chain(&case.table, case.members, &case.list, object).1.len();
+        let object = farthest(&case).expect("the bound is not empty");
+        assert!(links(object) > 0, "{}", place.name);
+        assert!((0..object).all(|other| links(other) < links(object)));
+        assert!((object..64).all(|other| links(other) <= links(object)));
+        assert_eq!(links(object) == 63, place.name == row().name);
+    }
+}
+
+#[test]
+fn tests_and_chains_are_measured_with_every_number() {
+    for (call, numbers) in [
+        (Call::Test, &CONFINEMENT_NUMBERS[..]),
+        (Call::Chain, &SHOWN_NUMBERS),
+    ] {
+        let met: BTreeSet<u8> = samples(call).iter().map(|sample| sample.number).collect();
+        assert!(met.iter().eq(numbers), "{}: {met:?}", call.name());
     }
 }
 

@@ -2,7 +2,10 @@
 
 use captable::raw;
 use yavrinks_peer::archive::{Archive, Calls};
-use yavrinks_peer::differential::{compare_inputs, compare_requests, Counts, Difference};
+use yavrinks_peer::differential::{compare_inputs, compare_requests, Counts, Difference, Line};
+use yavrinks_tools::generate::{
+    CONFINEMENT_NUMBERS, CONFINE_NUMBERS, IMAGE_NUMBERS, SHOWN_NUMBERS,
+};
 
 /// Enough to meet every call and every number.
 const REQUESTS: u64 = 20_000;
@@ -28,6 +31,30 @@ fn is_found(calls: &impl Calls, call: &str, part: &str) {
 #[test]
 fn the_linked_archive_has_no_difference() {
     assert!(first_difference(&Archive).is_none());
+}
+
+/// Every call is compared on every number that it gives, on most of them several times.
+#[test]
+fn every_number_of_every_call_is_met() {
+    let mut counts = Counts::default();
+    compare_requests(&Archive, 1, REQUESTS, &mut counts).expect("no difference");
+    compare_inputs(&Archive, 1, INPUTS, &mut counts).expect("no difference");
+    let lines: [(Line, &[u8], u64); 7] = [
+        (Line::Sound, &[0, 1], 30),
+        (Line::Access, &[0], 30),
+        (Line::Test, &CONFINEMENT_NUMBERS, 3),
+        (Line::Chain, &SHOWN_NUMBERS, 2),
+        (Line::Write, &[0, 16], 3),
+        (Line::Read, &IMAGE_NUMBERS, 30),
+        (Line::Confine, &CONFINE_NUMBERS, 5),
+    ];
+    for (line, numbers, least) in lines {
+        for &number in numbers {
+            let met = counts.of(line, number);
+            assert!(met >= least, "{line:?}, {number}: {met}\n{counts}");
+        }
+    }
+    assert!(counts.of(Line::Chain, 0) >= 30, "{counts}");
 }
 
 /// Answers 7 for 8.
@@ -135,4 +162,74 @@ impl Calls for LaxScan {
 #[test]
 fn a_scan_that_overlooks_a_clause_is_found() {
     is_found(&LaxScan, "the scan in C", "number");
+}
+
+/// Answers 19 for 18.
+struct WrongObject;
+
+impl Calls for WrongObject {
+    fn chain(
+        &self,
+        table: &mut raw::Table,
+        members: u64,
+        list: &mut [u8],
+        object: u8,
+    ) -> raw::Shown {
+        let mut shown = Archive.chain(table, members, list, object);
+        if shown.number == 18 {
+            shown.number = 19;
+        }
+        shown
+    }
+}
+
+#[test]
+fn a_wrong_number_of_a_chain_is_found() {
+    is_found(&WrongObject, "captable_chain", "number");
+}
+
+/// Gives the chain from the object's end on.
+struct TurnedChain;
+
+impl Calls for TurnedChain {
+    fn chain(
+        &self,
+        table: &mut raw::Table,
+        members: u64,
+        list: &mut [u8],
+        object: u8,
+    ) -> raw::Shown {
+        let mut shown = Archive.chain(table, members, list, object);
+        shown.numbers[..usize::from(shown.count)].reverse();
+        shown
+    }
+}
+
+#[test]
+fn a_chain_that_is_turned_about_is_found() {
+    is_found(&TurnedChain, "captable_chain", "numbers");
+}
+
+/// Leaves a number after the chain.
+struct LongChain;
+
+impl Calls for LongChain {
+    fn chain(
+        &self,
+        table: &mut raw::Table,
+        members: u64,
+        list: &mut [u8],
+        object: u8,
+    ) -> raw::Shown {
+        let mut shown = Archive.chain(table, members, list, object);
+        if let Some(after) = shown.numbers.get_mut(usize::from(shown.count)) {
+            *after = object;
+        }
+        shown
+    }
+}
+
+#[test]
+fn a_number_after_the_chain_is_found() {
+    is_found(&LongChain, "captable_chain", "numbers");
 }

@@ -6,7 +6,7 @@ use std::fs;
 use std::path::{Path, PathBuf};
 
 use yavrinks_model::step::Request;
-use yavrinks_model::table::{Capability, Record, Table};
+use yavrinks_model::table::{Capability, Record, Table, WK};
 use yavrinks_tools::definitions::askers::askers;
 use yavrinks_tools::definitions::cases::{subjects, Answer, Case, Part, Question};
 use yavrinks_tools::definitions::crates::{case_crates, CaseCrate};
@@ -17,7 +17,7 @@ use yavrinks_tools::definitions::statements::declarations;
 use yavrinks_tools::definitions::verdicts::{verdicts, Verdict};
 use yavrinks_tools::definitions::wrong::wrong_cases;
 use yavrinks_tools::definitions::{summary, terms, Options};
-use yavrinks_tools::generate::{any_damage, any_sound_table, ConfinementCase};
+use yavrinks_tools::generate::{any_damage, any_sound_table, ConfinementCase, ShownCase};
 use yavrinks_tools::rng::Rng;
 
 fn cases_of(seed: u64, runs: usize, rounds: usize) -> Vec<Case> {
@@ -186,14 +186,61 @@ fn a_step_that_is_done_is_stated_with_the_table_after_it() {
     assert!(text.contains("unfolding table-0012 after-0012 A.b\n"));
 }
 
-/// Example 1 of document 01: 3, 4 and 6 are clean. 4 is refused, 5 is not clean.
+/// Example 1 of document 01.
+fn example_1() -> ConfinementCase {
+    ConfinementCase {
+        table: Table::k(),
+        members: 1 << 5,
+        list: vec![(1, 2)],
+    }
+}
+
+/// Its bound is 0, 1 and 2.
+fn shown_case(object: u8) -> ShownCase {
+    ShownCase {
+        test: example_1(),
+        object,
+    }
+}
+
+#[test]
+fn a_chain_is_stated_with_zeros_after_its_numbers() {
+    let statement = "case-0005 : _≡_ {A = ℕ × ℕ × List ℕ} (shown (chainOf table-0005 32 list-0005";
+    let zeros = vec!["0"; 61].join(" ∷ ");
+    for (object, answer, numbers) in [
+        (2, "0, 2", format!("1 ∷ 2 ∷ {zeros} ∷ []")),
+        (5, "18, 0", format!("0 ∷ 0 ∷ {zeros} ∷ []")),
+        (6, "19, 0", format!("0 ∷ 0 ∷ {zeros} ∷ []")),
+    ] {
+        let case = Case::new(Question::Chain(shown_case(object)));
+        let text = declarations(&case, 5, "A.b");
+        let stated = format!("{statement} {object})) ({answer}, numbers-0005)\n");
+        assert!(text.contains(&stated), "{text}");
+        let on_one_line = text.replace("\n    ", " ");
+        let declared = format!("numbers-0005 = {numbers}\n");
+        assert!(on_one_line.contains(&declared), "{text}");
+    }
+}
+
+/// 5 is the stand-in, and leads to 1; 0 reads 1, which is a link either way, and 2 reads 1 and 6 weakly.
+/// 4 writes to 3.
+#[test]
+fn a_least_chain_is_stated_over_words_of_links() {
+    let case = Case::new(Question::LeastChain(shown_case(2)));
+    let text = declarations(&case, 5, "A.b").replace("\n    ", " ");
+    let statement =
+        "case-0005 : _≡_ {A = List ℕ} (leastChain (wordEdge words-0005) 5 2) (1 ∷ 2 ∷ [])\n";
+    assert!(text.contains(statement), "{text}");
+    let (from_1, from_4) = (1 | 1 << 2 | 1 << 5, 1 << 3);
+    let words = format!("words-0005 = 2 ∷ {from_1} ∷ 0 ∷ 16 ∷ {from_4} ∷ 2 ∷ 4 ∷ 0 ∷ 0 ∷ ");
+    assert!(text.contains(&words), "{text}");
+    assert!(!text.contains("table-0005"), "{text}");
+}
+
+/// 3, 4 and 6 are clean. 4 is refused, 5 is not clean.
 fn clean_case(parts: &[Part]) -> Case {
     Case::new(Question::Clean {
-        start: ConfinementCase {
-            table: Table::k(),
-            members: 1 << 5,
-            list: vec![(1, 2)],
-        },
+        start: example_1(),
         requests: vec![
             Request::Read { actor: 4, t: 0 },
             Request::Read { actor: 5, t: 0 },
@@ -245,7 +292,7 @@ fn the_default_run_asks_everything() {
         .iter()
         .map(|case| (case.question.subject(), case.answer.number()))
         .collect();
-    let expected: [(&str, &[u8]); 16] = [
+    let expected: [(&str, &[u8]); 18] = [
         ("clean along a run", &[0]),
         ("1 read", &[0, 1, 2, 3, 4, 5, 6]),
         ("2 write", &[0, 1, 2, 3, 4, 5, 6]),
@@ -257,6 +304,8 @@ fn the_default_run_asks_everything() {
         ("8 destroy", &[0, 1, 2, 3, 4, 5, 6, 8]),
         ("unknown code", &[1, 2]),
         ("confinement test", &[0, 1, 10, 11, 12, 13]),
+        ("chain to an object", &[0, 1, 10, 11, 12, 13, 18, 19]),
+        ("least chain", &[0]),
         ("potential access", &[0, 1]),
         ("image read", &[0, 1, 14, 15]),
         ("image written", &[0, 1, 16]),
@@ -324,8 +373,50 @@ fn wrong_answers_differ_from_the_right_ones() {
     }
     let is_clean = |case: &&Case| matches!(case.question, Question::Clean { .. });
     assert_eq!(wrong.iter().filter(is_clean).count(), Part::ALL.len());
-    // Of each of the eight other kinds a wrong number and wrong content.
-    assert_eq!(wrong.len(), Part::ALL.len() + 2 * 8);
+    // Of each of nine other kinds a wrong number and wrong content, of least chains wrong content.
+    assert_eq!(wrong.len(), Part::ALL.len() + 2 * 9 + 1);
+}
+
+/// Chains of one length compete in most of the least chains that are asked, and in some others.
+#[test]
+fn the_chains_that_are_asked_have_others_of_their_length() {
+    let (mut competing, mut least) = (0, 0);
+    for case in default_cases() {
+        let (Question::Chain(asked) | Question::LeastChain(asked)) = &case.question else {
+            continue;
+        };
+        let Answer::Chain(number, chain) = &case.answer else {
+            panic!("{case:?}");
+        };
+        let others = *number == 0 && shortest_chains(asked, chain.len()) > 1;
+        competing += usize::from(others);
+        least += usize::from(others && matches!(case.question, Question::LeastChain(_)));
+    }
+    assert!(competing >= 5 && least >= 3, "{competing}, {least}");
+}
+
+/// How many ways of so many links lead from the stand-in to the object. Those of the least number of
+/// links are chains.
+fn shortest_chains(case: &ShownCase, links: usize) -> u64 {
+    let test = &case.test;
+    let leads = |from: u8, to: u8| {
+        let capabilities = |n: u8| test.table.record(n).capabilities();
+        let forth = capabilities(from).any(|held| held.target == to && held.rights != WK);
+        forth || capabilities(to).any(|held| held.target == from)
+    };
+    let is_member = |n: usize| test.members >> n & 1 == 1;
+    let mut ways = [0_u64; 64];
+    for &(target, _) in test.list.iter().filter(|entry| entry.1 != WK) {
+        ways[usize::from(target)] = 1;
+    }
+    for _ in 1..links {
+        let before = ways;
+        for (to, way) in ways.iter_mut().enumerate() {
+            let from = (0..64).filter(|&from| leads(from as u8, to as u8) && !is_member(to));
+            *way = from.fold(0, |sum, from| before[from].saturating_add(sum));
+        }
+    }
+    ways[usize::from(case.object)]
 }
 
 #[test]

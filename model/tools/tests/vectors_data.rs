@@ -5,12 +5,14 @@ use std::collections::BTreeMap;
 use std::fs;
 use std::path::Path;
 
+use yavrinks_model::chain::chain as shown_chain;
 use yavrinks_model::confinement::confinement_test;
 use yavrinks_model::image::{read, write};
 use yavrinks_model::step::{step, step_in_place, Request};
 use yavrinks_tools::generate::can_meet;
 use yavrinks_tools::vectors::{
-    access_cases, chain, edges, image_cases, output, parts, step_cases, test_cases, write_cases,
+    access_cases, chain, edges, image_cases, output, parts, shown_cases, step_cases, test_cases,
+    write_cases,
 };
 
 /// How often each outcome comes.
@@ -156,6 +158,47 @@ fn relations_are_of_full_and_of_unsound_tables_too() {
     assert!(tables.iter().filter(|table| !table.is_sound()).count() >= 5);
 }
 
+#[test]
+fn chains_are_shown_for_every_outcome() {
+    let cases = shown_cases();
+    assert!((250..=270).contains(&cases.len()), "{}", cases.len());
+    let answers: Vec<(u8, Vec<u8>)> = cases
+        .iter()
+        .map(|case| {
+            let test = &case.test;
+            shown_chain(&test.table, test.members, &test.list, case.object)
+        })
+        .collect();
+    let least = [
+        (0, 90),
+        (1, 14),
+        (10, 14),
+        (11, 17),
+        (12, 14),
+        (13, 14),
+        (18, 40),
+        (19, 27),
+    ];
+    expect(&counts(answers.iter().map(|answer| answer.0)), &least);
+    let lengths = counts(answers.iter().map(|answer| answer.1.len()));
+    println!("{lengths:?}");
+    assert!((0..=6).all(|length| lengths.contains_key(&length)));
+    assert!(lengths[&63] >= 6 && lengths.len() >= 20);
+    for object in [0, 63] {
+        let numbers = cases
+            .iter()
+            .zip(&answers)
+            .filter(|(case, _)| case.object == object);
+        let numbers = counts(numbers.map(|(_, answer)| answer.0));
+        assert!([0, 18, 19]
+            .iter()
+            .all(|number| numbers.contains_key(number)));
+    }
+    for object in [64, 255] {
+        assert!(cases.iter().any(|case| case.object == object));
+    }
+}
+
 /// A change of the generator or of the model is to be followed by the command `vectors`.
 #[test]
 fn the_files_of_the_program_are_up_to_date() {
@@ -166,7 +209,7 @@ fn the_files_of_the_program_are_up_to_date() {
         .iter()
         .map(|part| (part.file, part.data.len()))
         .collect();
-    assert!(sizes.values().sum::<usize>() < 2_500_000);
+    assert!(sizes.values().sum::<usize>() < 3_000_000);
     if !folder.exists() {
         return;
     }

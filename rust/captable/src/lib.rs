@@ -2,8 +2,9 @@
 //!
 //! The calls are those of `libcaptable.a`, which `rt staticlib captable` proves and writes. This crate
 //! gives them types: a [`Table`] of 64 objects with eight slots each, a [`Request`] of eight kinds,
-//! potential access as a [`Relation`], the confinement test, and images. A refusal is a value with
-//! document 01's number, and changes neither the table nor any buffer.
+//! potential access as a [`Relation`], the confinement test, the [`Chain`] to an object of its bound, and
+//! images. A refusal is a value with the number of document 01 or 02, and changes neither the table nor any
+//! buffer.
 //!
 //! ```
 //! use captable::{Capability, Request, Set, StepRefusal, Table, ACTIVE, ALIVE, WR};
@@ -23,8 +24,12 @@
 //! assert_eq!(refusal.number(), 6);
 //!
 //! // Whom can a subsystem {4} ever influence, if it may hold wr over 3? 3 alone.
-//! let bound = table.test(Set::of(&[4]), &[Capability { target: 3, rights: WR }]).unwrap();
+//! let list = [Capability { target: 3, rights: WR }];
+//! let bound = table.test(Set::of(&[4]), &list).unwrap();
 //! assert_eq!(bound, Set::of(&[3]));
+//!
+//! // How does it get at 3? By what is listed.
+//! assert_eq!(table.chain(Set::of(&[4]), &list, 3).unwrap().as_slice(), [3]);
 //!
 //! // The stored image reads back to an equal table.
 //! let image = table.to_image().unwrap();
@@ -84,6 +89,7 @@
 #![no_std]
 #![deny(missing_docs)]
 
+mod chain;
 mod confine;
 mod pairs;
 pub mod raw;
@@ -94,10 +100,13 @@ mod set;
 mod show;
 mod table;
 
+pub use chain::{Chain, MAX_LINKS};
 pub use confine::{confine, Printed, CONFINE_BYTES};
 pub use pairs::{Pair, PairList, TooManyPairs, MAX_PAIRS};
 pub use raw::{Capability, Record};
-pub use refusal::{AccessRefusal, ReadRefusal, StepRefusal, TestRefusal, WriteRefusal};
+pub use refusal::{
+    AccessRefusal, ChainRefusal, ReadRefusal, StepRefusal, TestRefusal, WriteRefusal,
+};
 pub use relation::{Relation, Right};
 pub use request::{Request, RequestBytes, NO_REPLY, REQUEST_BYTES};
 pub use set::{Numbers, Set};
@@ -135,7 +144,7 @@ pub const TX: u8 = 8;
 
 /// The version of the calls that this crate was written for: 65,536 times the first number, 256 times the
 /// second, and the third.
-pub const VERSION: u32 = 0x00_01_00;
+pub const VERSION: u32 = 0x00_02_00;
 
 /// The version of the calls that were linked. Where it is not [`VERSION`], the archive is another than the
 /// crate was written for.

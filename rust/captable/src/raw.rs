@@ -1,8 +1,8 @@
 //! The archive's calls and structs as they cross, field for field those of `include/captable.h`.
 //!
 //! The safe calls are methods of [`Table`](crate::Table). These are here for whoever needs the exact
-//! boundary: a slice goes as its pointer and then its length, and every answer is document 01's number,
-//! 0 for done. The structs are `Copy`, as C's are, since the calls take them by value.
+//! boundary: a slice goes as its pointer and then its length, and every answer is a number of document 01
+//! or 02, 0 for done. The structs are `Copy`, as C's are, since the calls take them by value.
 
 use crate::Set;
 
@@ -89,6 +89,18 @@ pub struct Finding {
     pub number: u8,
 }
 
+/// A chain of links from the stand-in to an object of the bound.
+#[repr(C)]
+#[derive(Clone, Copy, Debug, PartialEq, Eq)]
+pub struct Shown {
+    /// The chain's object numbers in turn, the stand-in left out; zero after the count.
+    pub numbers: [u8; 63],
+    /// How many numbers the chain has; none on a refusal.
+    pub count: u8,
+    /// 0, or why no chain is shown.
+    pub number: u8,
+}
+
 extern "C" {
     /// The version of these calls: see [`VERSION`](crate::VERSION).
     pub fn captable_version() -> u32;
@@ -115,6 +127,17 @@ extern "C" {
     /// # Safety
     /// `list` points to `length` bytes.
     pub fn captable_test(table: Table, members: u64, list: *const u8, length: usize) -> Finding;
+    /// The chain to an object of the bound of that test.
+    ///
+    /// # Safety
+    /// `list` points to `length` bytes.
+    pub fn captable_chain(
+        table: Table,
+        members: u64,
+        list: *const u8,
+        length: usize,
+        object: u8,
+    ) -> Shown;
     /// Reads an image; on every refusal with the wholly unborn table.
     ///
     /// # Safety

@@ -1,4 +1,4 @@
-//! Why a call was turned down. Each cause has document 01's number.
+//! Why a call was turned down. Each cause has document 01's number, from 18 on document 02's.
 
 use core::error::Error;
 use core::fmt;
@@ -13,7 +13,7 @@ macro_rules! refusals {
         }
 
         impl $name {
-            /// Document 01's number of the cause.
+            /// The number of the cause: document 01's, from 18 on document 02's.
             #[must_use]
             pub const fn number(self) -> u8 {
                 self as u8
@@ -87,6 +87,26 @@ refusals! {
         RightUnlisted = 12, "a member holds a right that is not listed";
         /// A non-member holds a capability that names a member.
         MemberHeld = 13, "a non-member holds a capability naming a member";
+    }
+}
+
+refusals! {
+    /// Why no chain is shown: what the confinement test is refused for, and then the object.
+    ChainRefusal {
+        /// The table is not sound.
+        TableUnsound = 1, "the table is not sound";
+        /// There is no member, or one that is not alive.
+        MembersInvalid = 10, "there is no member, or one is not alive";
+        /// The list has more than eight entries, or an entry is no right over a born non-member.
+        ListInvalid = 11, "the list is too long, or an entry is invalid";
+        /// A member holds a right over a non-member that the list does not have.
+        RightUnlisted = 12, "a member holds a right that is not listed";
+        /// A non-member holds a capability that names a member.
+        MemberHeld = 13, "a non-member holds a capability naming a member";
+        /// The object's number is above 63, unborn or a member.
+        ObjectInvalid = 18, "the object is above 63, unborn or a member";
+        /// The object is outside the bound.
+        OutsideBound = 19, "the object is outside the bound";
     }
 }
 

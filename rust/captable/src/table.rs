@@ -2,8 +2,8 @@
 
 use crate::raw;
 use crate::request::REQUEST_BYTES;
-use crate::{AccessRefusal, ReadRefusal, StepRefusal, TestRefusal, WriteRefusal};
-use crate::{Capability, Record, Relation, Request, Set};
+use crate::{AccessRefusal, ChainRefusal, ReadRefusal, StepRefusal, TestRefusal, WriteRefusal};
+use crate::{Capability, Chain, Record, Relation, Request, Set};
 use crate::{IMAGE_BYTES, MAX_ENTRIES, OBJECTS, SLOTS};
 
 /// The capability table: 64 records with eight slots each. Any value may be put into it; every call
@@ -167,17 +167,60 @@ impl Table {
     /// # Errors
     /// 1 for a table that is not sound, and 10 to 13, the first cause in number order.
     pub fn test(&self, members: Set, list: &[Capability]) -> Result<Set, TestRefusal> {
-        let mut bytes = [0; 2 * (MAX_ENTRIES + 1)];
-        // A list that is too long goes as its first nine entries, and is refused like all of it.
-        let sent = list.len().min(MAX_ENTRIES + 1);
-        for (two, entry) in bytes.chunks_exact_mut(2).zip(list) {
-            two.copy_from_slice(&[entry.target, entry.rights]);
-        }
+        let list = ListBytes::new(list);
         // SAFETY: the length is within the array.
         let finding =
-            unsafe { raw::captable_test(self.0, members.bits(), bytes.as_ptr(), 2 * sent) };
+            unsafe { raw::captable_test(self.0, members.bits(), list.bytes.as_ptr(), list.length) };
         TestRefusal::check(finding.number)?;
         Ok(Set::from_bits(finding.bound))
+    }
+
+    /// How an object comes to be in the bound that [`test`](Table::test) gives: a shortest chain of links
+    /// to it from the stand-in, which is in the place of all members and holds exactly the list. Among
+    /// chains of one length it is the one whose numbers come first, compared from the stand-in's end.
+    ///
+    /// Each link is one capability that a non-member holds or that is listed: rd, wr and tx lead either
+    /// way, wk from target to holder.
+    ///
+    /// ```
+    /// # let mut table = captable::Table::unborn();
+    /// # for n in [1, 2, 5] {
+    /// #     table.record_mut(n).status = captable::ALIVE;
+    /// # }
+    /// # *table.slot_mut(2, 0) = captable::Capability { target: 1, rights: captable::WK };
+    /// use captable::{Capability, Set, WR};
+    ///
+    /// // The members {5} may write to 1, which 2 reads weakly.
+    /// let (members, list) = (Set::of(&[5]), [Capability { target: 1, rights: WR }]);
+    /// assert!(table.test(members, &list)?.contains(2));
+    /// let chain = table.chain(members, &list, 2).expect("2 is in the bound");
+    /// assert_eq!(chain.as_slice(), [1, 2]);
+    /// assert_eq!(chain.to_string(), "1 -> 2");
+    /// # Ok::<(), captable::TestRefusal>(())
+    /// ```
+    ///
+    /// # Errors
+    /// Those of the test, in number order; then 18 for an object above 63, unborn or a member, and 19 for
+    /// one outside the bound.
+    pub fn chain(
+        &self,
+        members: Set,
+        list: &[Capability],
+        object: u8,
+    ) -> Result<Chain, ChainRefusal> {
+        let list = ListBytes::new(list);
+        // SAFETY: the length is within the array.
+        let shown = unsafe {
+            raw::captable_chain(
+                self.0,
+                members.bits(),
+                list.bytes.as_ptr(),
+                list.length,
+                object,
+            )
+        };
+        ChainRefusal::check(shown.number)?;
+        Ok(Chain::new(&shown))
     }
 
     /// The record of object `n`.
@@ -223,6 +266,24 @@ impl Table {
     /// A table as it crosses to the archive, to be changed.
     pub fn as_raw_mut(&mut self) -> &mut raw::Table {
         &mut self.0
+    }
+}
+
+/// The list of a test as it crosses: two bytes for each entry.
+struct ListBytes {
+    bytes: [u8; 2 * (MAX_ENTRIES + 1)],
+    length: usize,
+}
+
+impl ListBytes {
+    /// A list that is too long goes as its first nine entries, and is refused like all of it.
+    fn new(list: &[Capability]) -> ListBytes {
+        let mut bytes = [0; 2 * (MAX_ENTRIES + 1)];
+        for (two, entry) in bytes.chunks_exact_mut(2).zip(list) {
+            two.copy_from_slice(&[entry.target, entry.rights]);
+        }
+        let length = 2 * list.len().min(MAX_ENTRIES + 1);
+        ListBytes { bytes, length }
     }
 }
 

@@ -1,7 +1,7 @@
 //! The structs are laid out as `include/captable.h` asserts on the C side: sizes and offsets are written
 //! here a second time, and the header's assertions are read and compared.
 
-use captable::raw::{Capability, Finding, Outcome, Record, Relation, Table};
+use captable::raw::{Capability, Finding, Outcome, Record, Relation, Shown, Table};
 use std::mem::{align_of, offset_of, size_of};
 
 #[test]
@@ -27,6 +27,10 @@ fn sizes_and_offsets() {
     assert_eq!(size_of::<Finding>(), 16);
     assert_eq!(offset_of!(Finding, bound), 0);
     assert_eq!(offset_of!(Finding, number), 8);
+    assert_eq!(size_of::<Shown>(), 65);
+    assert_eq!(offset_of!(Shown, numbers), 0);
+    assert_eq!(offset_of!(Shown, count), 63);
+    assert_eq!(offset_of!(Shown, number), 64);
 }
 
 /// The number that the header's assertion of this name states.
@@ -61,6 +65,9 @@ fn the_header_asserts_the_same() {
         ("relation_number", offset_of!(Relation, number)),
         ("finding", size_of::<Finding>()),
         ("finding_number", offset_of!(Finding, number)),
+        ("shown", size_of::<Shown>()),
+        ("shown_count", offset_of!(Shown, count)),
+        ("shown_number", offset_of!(Shown, number)),
     ] {
         assert_eq!(asserted(header, name), here, "{name}");
     }

@@ -1,6 +1,6 @@
 //! README's table of numbers and the header say of every cause the number and the word that it has here.
 
-use captable::{AccessRefusal, ReadRefusal, StepRefusal, TestRefusal, WriteRefusal};
+use captable::{AccessRefusal, ChainRefusal, ReadRefusal, StepRefusal, TestRefusal, WriteRefusal};
 use std::fmt::Debug;
 
 /// A number, and the name of its cause.
@@ -10,8 +10,8 @@ fn named(number: u8, cause: impl Debug) -> Named {
     (number, format!("`{cause:?}`"))
 }
 
-/// Every cause of this crate, each once.
-fn causes() -> Vec<Named> {
+/// Every cause of this crate, each once; in the place of 17, which no call gives, the name that it is told.
+fn causes(named_17: &str) -> Vec<Named> {
     use StepRefusal::*;
     let mut all: Vec<Named> = [
         TableUnsound,
@@ -43,6 +43,11 @@ fn causes() -> Vec<Named> {
         WriteRefusal::BufferShort.number(),
         WriteRefusal::BufferShort,
     ));
+    all.push((17, named_17.to_string()));
+    all.extend(
+        [ChainRefusal::ObjectInvalid, ChainRefusal::OutsideBound]
+            .map(|cause| named(cause.number(), cause)),
+    );
     all
 }
 
@@ -64,8 +69,7 @@ fn the_table_in_readme_has_every_cause_and_no_other() {
         })
         .collect();
     let mut expected = vec![(0, String::new())];
-    expected.extend(causes());
-    expected.push((17, String::new()));
+    expected.extend(causes(""));
     assert_eq!(listed, expected);
 }
 
@@ -98,8 +102,8 @@ fn the_header_has_every_cause_and_no_other() {
         })
         .collect();
     let mut expected = vec![(0, "CAPTABLE_DONE".to_string())];
-    expected.extend(causes().into_iter().map(|(n, cause)| (n, in_c(&cause))));
-    expected.push((17, "CAPTABLE_INPUT_WRONG".to_string()));
+    let causes = causes("`InputWrong`").into_iter();
+    expected.extend(causes.map(|(n, cause)| (n, in_c(&cause))));
     assert_eq!(listed, expected);
 }
 
@@ -114,6 +118,40 @@ fn the_header_has_the_same_version() {
 fn an_unsound_table_is_1_everywhere() {
     assert_eq!(AccessRefusal::TableUnsound.number(), 1);
     assert_eq!(TestRefusal::TableUnsound.number(), 1);
+    assert_eq!(ChainRefusal::TableUnsound.number(), 1);
     assert_eq!(ReadRefusal::TableUnsound.number(), 1);
     assert_eq!(WriteRefusal::TableUnsound.number(), 1);
+}
+
+/// Who asks for a chain gets the test's refusals by the same number, name and words.
+#[test]
+fn a_chain_is_refused_as_its_test_is() {
+    for (test, chain) in [
+        (TestRefusal::TableUnsound, ChainRefusal::TableUnsound),
+        (TestRefusal::MembersInvalid, ChainRefusal::MembersInvalid),
+        (TestRefusal::ListInvalid, ChainRefusal::ListInvalid),
+        (TestRefusal::RightUnlisted, ChainRefusal::RightUnlisted),
+        (TestRefusal::MemberHeld, ChainRefusal::MemberHeld),
+    ] {
+        assert_eq!(named(test.number(), test), named(chain.number(), chain));
+        assert_eq!(test.to_string(), chain.to_string());
+    }
+}
+
+/// The words of the header's `captable_reason` for a name of its enum.
+fn reason(header: &str, name: &str) -> String {
+    let case = format!("    case {name}:\n        return \"");
+    let after = header.split(case.as_str()).nth(1).expect("a reason");
+    let words = after.split("\";").next().expect("its end");
+    words.to_string()
+}
+
+#[test]
+fn the_header_gives_the_same_reasons_for_18_and_19() {
+    let header = include_str!("../../../include/captable.h");
+    for refusal in [ChainRefusal::ObjectInvalid, ChainRefusal::OutsideBound] {
+        let name = in_c(&format!("{refusal:?}"));
+        let told = format!("refused {}: {}", refusal.number(), reason(header, &name));
+        assert_eq!(refusal.to_string(), told);
+    }
 }

@@ -1,11 +1,11 @@
-//! The boundary itself: both forms of the step agree, no bytes at all may come with a null pointer, and
-//! what `confine` prints leaves the rest of its buffer.
+//! The boundary itself: both forms of the step agree, no bytes at all may come with a null pointer, a chain
+//! has zeros after its numbers, and what `confine` prints leaves the rest of its buffer.
 
 mod common;
 
 use captable::raw::{
-    captable_confine, captable_read, captable_step, captable_step_by_value, captable_test,
-    captable_write,
+    captable_chain, captable_confine, captable_read, captable_step, captable_step_by_value,
+    captable_test, captable_write, Shown,
 };
 use captable::{Table, WR};
 use common::{k, set};
@@ -41,6 +41,10 @@ fn no_bytes_may_come_with_a_null_pointer() {
             captable_test(*k().as_raw(), set(&[5]).bits(), null(), 0).number,
             12
         );
+        assert_eq!(
+            captable_chain(*k().as_raw(), set(&[5]).bits(), null(), 0, 2).number,
+            12
+        );
         let refused = captable_read(null(), 0);
         assert_eq!(
             (refused.number, refused.table),
@@ -64,4 +68,43 @@ fn example_1_is_printed() {
     let length = unsafe { captable_confine(input.as_ptr(), input.len(), &mut printed) };
     assert_eq!(&printed[..length], b"accepted\n0\n1\n2\n");
     assert!(printed[length..].iter().all(|&byte| byte == 0xaa));
+}
+
+/// What is shown of an object of table K, where 5 is the member.
+fn shown(list: &[u8], object: u8) -> Shown {
+    let members = set(&[5]).bits();
+    // SAFETY: the list is the caller's own.
+    unsafe { captable_chain(*k().as_raw(), members, list.as_ptr(), list.len(), object) }
+}
+
+#[test]
+fn a_chain_has_zeros_after_its_numbers() {
+    let mut numbers = [0; 63];
+    numbers[..2].copy_from_slice(&[1, 2]);
+    let expected = Shown {
+        numbers,
+        count: 2,
+        number: 0,
+    };
+    assert_eq!(shown(&[1, WR], 2), expected);
+}
+
+#[test]
+fn a_chain_that_is_refused_has_no_numbers() {
+    // Bytes of odd length are no list.
+    for (list, object, number) in [
+        (&[1, WR][..], 5, 18),
+        (&[1, WR], 66, 18),
+        (&[1, WR], 3, 19),
+        (&[1, WR, 1], 2, 11),
+        (&[1], 255, 11),
+        (&[], 2, 12),
+    ] {
+        let expected = Shown {
+            numbers: [0; 63],
+            count: 0,
+            number,
+        };
+        assert_eq!(shown(list, object), expected, "{list:?}, {object}");
+    }
 }

@@ -1,5 +1,6 @@
-//! The time of each call against the model's on the same input, in turns, and of the step on a lent
-//! table against one soundness scan in C. Both sides check soundness at each step, as document 01 asks.
+//! The time of each call against the model's on the same input, in turns, of the chain against the test
+//! that it begins with, and of the step on a lent table against one soundness scan in C. Both sides check
+//! soundness at each step, as document 01 asks.
 
 mod measure;
 mod steps;
@@ -9,7 +10,7 @@ use std::process::ExitCode;
 
 use yavrinks_tools::progress::Progress;
 
-use crate::samples::{places, requests, Place};
+use crate::samples::{places, requests, row, Place};
 use measure::{Figures, ROUNDS};
 
 /// The most that a lent step should take, in scans.
@@ -20,6 +21,7 @@ const NOTE: &str = "\
 Nanoseconds a call are the least of the rounds. Below 1.00 the proved call is faster. Middle, low and
 high are of the ratios of the single rounds. By value both sides copy the table. Lent, an allocate and a
 destroy are undone after each call, on both sides alike. The time of the scan in C stands under proved.
+A chain is that to the object farthest off.
 ";
 
 /// Times everything and prints a line a call.
@@ -29,7 +31,9 @@ pub fn command() -> ExitCode {
         .iter()
         .map(|place| requests(&place.table).len())
         .sum();
-    let all = 3 * each + places.len() * wholes::ALL.len();
+    // The chain against the test, and on the row against the model too.
+    let chains = places.len() + 2;
+    let all = 3 * each + places.len() * wholes::ALL.len() + chains;
     eprintln!("bench: {all} calls to be timed, about a tenth of a second each");
     let mut timing = Timing::new(all as u64);
 
@@ -48,16 +52,27 @@ pub fn command() -> ExitCode {
             timing.line(place, name, || figures(place));
         }
     }
+    timing.line(&row(), "chain", || wholes::chain(&row()));
+    archive_alone(&places, &mut timing);
+    ExitCode::SUCCESS
+}
+
+/// The archive's calls against one another and against the scan in C.
+fn archive_alone(places: &[Place], timing: &mut Timing) {
+    println!("\nThe chain against the test that it begins with.\n");
+    head("call", "chain ns", "test ns");
+    for place in places.iter().chain([&row()]) {
+        timing.line(place, "chain", || wholes::chain_against_test(place));
+    }
     println!("\nThe lent step against one soundness scan in C -O3. Goal: at most {GOAL:.2}.\n");
     head("call", "step ns", "scan ns");
-    for place in &places {
+    for place in places {
         for (name, request) in requests(&place.table) {
             timing.line(place, &format!("{name} lent"), || {
                 steps::lent_against_scan(&place.table, &request)
             });
         }
     }
-    ExitCode::SUCCESS
 }
 
 /// Takes the figures one after the other, and says how far it is.

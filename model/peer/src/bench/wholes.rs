@@ -2,25 +2,27 @@
 
 use std::hint::black_box;
 
+use captable::raw;
 use yavrinks_model::access::potential_access;
+use yavrinks_model::chain::chain as model_chain;
 use yavrinks_model::confinement::confinement_test;
 use yavrinks_model::image::{self, IMAGE_LENGTH};
-use yavrinks_model::set;
-use yavrinks_model::wire::decode_list;
+use yavrinks_tools::generate::ConfinementCase;
 
 use super::measure::{in_turn, Figures};
 use crate::archive::{Archive, Calls};
 use crate::convert::to_raw;
-use crate::samples::{held_list, Place};
+use crate::samples::{farthest, held_list, own_test, Place};
 
 /// Takes the figures of one call.
 type Take = fn(&Place) -> Figures;
 
 /// Each call by name.
-pub const ALL: [(&str, Take); 6] = [
+pub const ALL: [(&str, Take); 7] = [
     ("soundness", soundness),
     ("one scan in C -O3", scan),
     ("confinement test", test),
+    ("chain", chain),
     ("potential access", access),
     ("image read", read),
     ("image write", write),
@@ -53,21 +55,72 @@ fn scan(place: &Place) -> Figures {
 
 /// The test of the member that nobody else names, with the list of what it holds: accepted.
 fn test(place: &Place) -> Figures {
-    let (mut given, members) = (to_raw(&place.table), set::single(place.member));
-    let mut bytes = held_list(&place.table, place.member);
-    let list = decode_list(&bytes);
+    let (mut asked, case) = (Asked::new(place), own_test(place));
     in_turn(
+        || asked.test(),
         || {
-            let members = black_box(members);
-            let found = Archive.test(black_box(&mut given), members, black_box(&mut bytes));
-            black_box(&found);
-        },
-        || {
-            let members = black_box(members);
-            let found = confinement_test(black_box(&place.table), members, black_box(&list));
+            let members = black_box(case.members);
+            let found = confinement_test(black_box(&case.table), members, black_box(&case.list));
             black_box(&found);
         },
     )
+}
+
+/// Of the same test, the chain to the object farthest off.
+pub fn chain(place: &Place) -> Figures {
+    let (mut asked, case) = (Asked::new(place), own_test(place));
+    let object = asked.object;
+    in_turn(
+        || asked.chain(),
+        || {
+            let ConfinementCase {
+                table,
+                members,
+                list,
+            } = black_box(&case);
+            let shown = model_chain(table, *members, list, black_box(object));
+            black_box(&shown);
+        },
+    )
+}
+
+/// The chain against the test that it begins with.
+pub fn chain_against_test(place: &Place) -> Figures {
+    let (mut asked, mut tested) = (Asked::new(place), Asked::new(place));
+    in_turn(|| asked.chain(), || tested.test())
+}
+
+/// What the archive is asked of a place's own test.
+struct Asked {
+    table: raw::Table,
+    members: u64,
+    list: Vec<u8>,
+    object: u8,
+}
+
+impl Asked {
+    fn new(place: &Place) -> Asked {
+        let case = own_test(place);
+        Asked {
+            table: to_raw(&case.table),
+            members: case.members,
+            list: held_list(&place.table, place.member),
+            object: farthest(&case).expect("the member holds something"),
+        }
+    }
+
+    fn test(&mut self) {
+        let (members, list) = (black_box(self.members), black_box(&mut self.list));
+        let found = Archive.test(black_box(&mut self.table), members, list);
+        black_box(&found);
+    }
+
+    fn chain(&mut self) {
+        let (members, list) = (black_box(self.members), black_box(&mut self.list));
+        let object = black_box(self.object);
+        let shown = Archive.chain(black_box(&mut self.table), members, list, object);
+        black_box(&shown);
+    }
 }
 
 fn access(place: &Place) -> Figures {

@@ -4,8 +4,8 @@ use std::fmt;
 
 use yavrinks_model::step::Code;
 
-/// The numbers that calls give are 0 to 17.
-const NUMBERS: usize = 18;
+/// The numbers that calls give are 0 to 19.
+const NUMBERS: usize = 20;
 
 /// The lines of the summary, in order.
 #[derive(Clone, Copy, Debug, PartialEq, Eq)]
@@ -16,13 +16,14 @@ pub enum Line {
     Sound,
     Access,
     Test,
+    Chain,
     Write,
     Read,
     Confine,
 }
 
 /// How many lines there are.
-const LINES: usize = 16;
+const LINES: usize = 17;
 
 /// The names of the lines, in order of their place.
 fn names() -> Vec<String> {
@@ -32,6 +33,7 @@ fn names() -> Vec<String> {
         "soundness",
         "potential access",
         "confinement test",
+        "chain to an object",
         "image written, read back",
         "image read",
         "confine",
@@ -52,9 +54,10 @@ impl Line {
             Line::Sound => FIRST_OTHER,
             Line::Access => 11,
             Line::Test => 12,
-            Line::Write => 13,
-            Line::Read => 14,
-            Line::Confine => 15,
+            Line::Chain => 13,
+            Line::Write => 14,
+            Line::Read => 15,
+            Line::Confine => 16,
         }
     }
 }
@@ -64,7 +67,7 @@ impl Line {
 pub struct Counts([[u64; NUMBERS]; LINES]);
 
 impl Counts {
-    /// Counts one answer. No call gives a number above 17.
+    /// Counts one answer. No call gives a number above 19.
     pub fn add(&mut self, line: Line, number: u8) {
         self.0[line.place()][usize::from(number)] += 1;
     }

@@ -15,7 +15,8 @@ pub use counts::{Counts, Line};
 pub use facts::{Compared, Difference};
 pub use steps::{compare_step, Ask, Twin};
 pub use wholes::{
-    compare_access, compare_confine, compare_read, compare_sound, compare_test, compare_write,
+    compare_access, compare_chain, compare_confine, compare_read, compare_sound, compare_test,
+    compare_write,
 };
 
 use std::process::ExitCode;

@@ -1,15 +1,16 @@
 //! All calls but the step, on the table as it is and on tables that are aimed at each number.
 
+use yavrinks_model::confinement::Entry;
 use yavrinks_model::table::Table;
-use yavrinks_tools::generate::{confinement_case, damaged_table};
-use yavrinks_tools::generate::{ConfinementCase, Damage, CONFINEMENT_NUMBERS};
+use yavrinks_tools::generate::{confinement_case, damaged_table, shown_case};
+use yavrinks_tools::generate::{ConfinementCase, Damage, CONFINEMENT_NUMBERS, SHOWN_NUMBERS};
 use yavrinks_tools::rng::Rng;
 
 use super::counts::{Counts, Line};
 use super::course::put_anything;
 use super::draw::any_bytes;
 use super::facts::Compared;
-use super::wholes::{compare_access, compare_sound, compare_test, compare_write};
+use super::wholes::{compare_access, compare_chain, compare_sound, compare_test, compare_write};
 use crate::archive::Calls;
 
 /// The calls on a whole table: the one given, and others that are aimed at each number.
@@ -27,6 +28,7 @@ pub fn sweep(
     }
     counts.add(Line::Access, compare_access(calls, table)?);
     compare_tests(calls, rng, table, counts)?;
+    compare_chains(calls, rng, table, counts)?;
     let length = match rng.between(0, 9) {
         0 => rng.between(0, 1922),
         1 => 1922,
@@ -71,12 +73,17 @@ fn loose_test(rng: &mut Rng, table: &Table) -> (u64, Vec<u8>) {
     (members, any_bytes(rng, length))
 }
 
-/// A case for one of the numbers, with the bytes of its list; some have an odd byte at the end or are
-/// much too long.
+/// A case for one of the numbers, with the bytes of its list.
 fn aimed_test(rng: &mut Rng) -> (ConfinementCase, Vec<u8>) {
     let aim = rng.pick(&CONFINEMENT_NUMBERS).unwrap_or(0);
     let case = confinement_case(rng, aim);
-    let entries = case.list.iter();
+    let list = list_bytes(rng, &case.list);
+    (case, list)
+}
+
+/// The bytes of a list. One in ten has an odd byte at the end or is much too long.
+fn list_bytes(rng: &mut Rng, entries: &[Entry]) -> Vec<u8> {
+    let entries = entries.iter();
     let mut list: Vec<u8> = entries
         .flat_map(|&(target, rights)| [target, rights])
         .collect();
@@ -84,5 +91,25 @@ fn aimed_test(rng: &mut Rng) -> (ConfinementCase, Vec<u8>) {
         let more = rng.pick(&[1, 1, 2, 17, 300]).unwrap_or(1);
         list.extend(any_bytes(rng, more));
     }
-    (case, list)
+    list
+}
+
+/// The chain three times: on the table as it is, on a case that has one, and on a case aimed at a number.
+fn compare_chains(
+    calls: &impl Calls,
+    rng: &mut Rng,
+    table: &Table,
+    counts: &mut Counts,
+) -> Compared<()> {
+    let (members, list) = loose_test(rng, table);
+    let object = rng.byte(0, 80);
+    let number = compare_chain(calls, table, members, &list, object)?;
+    counts.add(Line::Chain, number);
+    for aim in [0, rng.pick(&SHOWN_NUMBERS).unwrap_or(0)] {
+        let case = shown_case(rng, aim);
+        let (test, list) = (&case.test, list_bytes(rng, &case.test.list));
+        let number = compare_chain(calls, &test.table, test.members, &list, case.object)?;
+        counts.add(Line::Chain, number);
+    }
+    Ok(())
 }

@@ -1,8 +1,9 @@
-//! The calls on a whole table or on bytes: soundness, potential access, the confinement test, images
-//! and what `confine` prints, each on the same input in the model and in the archive.
+//! The calls on a whole table or on bytes: soundness, potential access, the confinement test, chains,
+//! images and what `confine` prints, each on the same input in the model and in the archive.
 
 use captable::raw;
 use yavrinks_model::access::potential_access;
+use yavrinks_model::chain::chain;
 use yavrinks_model::confine::confine;
 use yavrinks_model::confinement::confinement_test;
 use yavrinks_model::image;
@@ -90,6 +91,53 @@ pub fn compare_test(calls: &impl Calls, table: &Table, members: u64, list: &[u8]
         facts(found.number, found.bound, &lent, &bytes),
     )?;
     Ok(number)
+}
+
+/// The chain to any object, for any members and any bytes of a list.
+pub fn compare_chain(
+    calls: &impl Calls,
+    table: &Table,
+    members: u64,
+    list: &[u8],
+    object: u8,
+) -> Compared<u8> {
+    let given = to_raw(table);
+    let expected = shown(chain(table, members, &decode_list(list), object));
+    let (mut lent, mut bytes) = (given, Box::<[u8]>::from(list));
+    let found = calls.chain(&mut lent, members, &mut bytes, object);
+    let facts = |shown: &raw::Shown, table: &raw::Table, bytes: &[u8]| {
+        Facts::new()
+            .number("number", shown.number)
+            .number("count", shown.count)
+            .bytes("numbers", &shown.numbers)
+            .table("table that was given", table)
+            .bytes("list", bytes)
+    };
+    let case = || {
+        Facts::new()
+            .table("table", &given)
+            .sets("members", &[members])
+            .bytes("list", list)
+            .number("object", object)
+    };
+    same(
+        "captable_chain",
+        case,
+        facts(&expected, &given, list),
+        facts(&found, &lent, &bytes),
+    )?;
+    Ok(expected.number)
+}
+
+/// The model's answer as it is to cross: zeros after the chain's numbers.
+fn shown((number, chain): (u8, Vec<u8>)) -> raw::Shown {
+    let mut numbers = [0; 63];
+    numbers[..chain.len()].copy_from_slice(&chain);
+    raw::Shown {
+        numbers,
+        count: chain.len() as u8,
+        number,
+    }
 }
 
 /// Writing into a copy of the buffer; what was written is then read.

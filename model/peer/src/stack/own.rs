@@ -1,5 +1,5 @@
-//! One call on a stack of its own, by the calling convention of Linux for x86-64: integers go in rdi, rsi
-//! and rdx, a table by value is pushed, and what is too large for registers goes where rdi points.
+//! One call on a stack of its own, by the calling convention of Linux for x86-64: integers go in rdi, rsi,
+//! rdx, rcx and r8, a table by value is pushed, and what is too large for registers goes where rdi points.
 
 use std::arch::asm;
 use std::mem::{size_of, size_of_val};
@@ -13,9 +13,11 @@ use crate::convert::to_raw;
 /// The length of the stack: far more than any call should take.
 const LENGTH: usize = 1 << 20;
 
-/// A place for what a call gives back: the number of an outcome or a relation is after 2,048 bytes.
+/// A place for what a call gives back: the number of an outcome or a relation is after 2,048 bytes, that
+/// of a chain after 64.
 const RESULT: usize = 4096;
 const NUMBER_AT: usize = 2048;
+const CHAIN_NUMBER_AT: usize = 64;
 
 /// The bytes of stack that a call takes on the input, or none if it does not answer as the model does.
 /// Two patterns, since a call may write the very bytes of one.
@@ -28,44 +30,84 @@ pub fn measure(call: Call, sample: &Sample) -> Option<usize> {
 fn taken(call: Call, sample: &Sample, pattern: u8) -> Option<usize> {
     let (mut table, mut bytes) = (to_raw(&sample.table), sample.bytes.clone());
     let mut result = vec![0_u64; RESULT / 8];
-    let given = result.as_mut_ptr() as u64;
-    let (start, length) = (bytes.as_mut_ptr() as u64, bytes.len() as u64);
-    let (function, arguments) = match call {
-        Call::Step => (
-            raw::captable_step as *const (),
-            [&raw mut table as u64, start, length],
-        ),
-        Call::Stepped => (
-            raw::captable_step_by_value as *const (),
-            [given, start, length],
-        ),
-        Call::Sound => (raw::captable_sound as *const (), [0; 3]),
-        Call::Access => (raw::captable_access as *const (), [given, 0, 0]),
-        Call::Test => (
-            raw::captable_test as *const (),
-            [sample.members, start, length],
-        ),
-        Call::Read => (raw::captable_read as *const (), [given, start, length]),
-        Call::Write => (raw::captable_write as *const (), [start, length, 0]),
-        Call::Confine => (raw::captable_confine as *const (), [start, length, given]),
-        Call::Version => (raw::captable_version as *const (), [0; 3]),
+    let places = Places {
+        table: &raw mut table as u64,
+        start: bytes.as_mut_ptr() as u64,
+        length: bytes.len() as u64,
+        result: result.as_mut_ptr() as u64,
     };
+    let arguments = arguments(call, sample, &places);
     let pushed = call.takes_table().then_some(&table);
     let mut stack = vec![u128::from_ne_bytes([pattern; 16]); LENGTH / 16];
     // SAFETY: the arguments are those of the call, and what they point to lives until after it.
-    let registers = unsafe { call_on(&mut stack, function, arguments, pushed) };
+    let registers = unsafe { call_on(&mut stack, function(call), arguments, pushed) };
     let result: Vec<u8> = result.iter().flat_map(|word| word.to_ne_bytes()).collect();
-    let number = match call {
+    (number(call, registers, &result) == sample.number).then(|| depth(&stack, pattern))
+}
+
+/// The function of a call.
+fn function(call: Call) -> *const () {
+    match call {
+        Call::Step => raw::captable_step as *const (),
+        Call::Stepped => raw::captable_step_by_value as *const (),
+        Call::Sound => raw::captable_sound as *const (),
+        Call::Access => raw::captable_access as *const (),
+        Call::Test => raw::captable_test as *const (),
+        Call::Chain => raw::captable_chain as *const (),
+        Call::Read => raw::captable_read as *const (),
+        Call::Write => raw::captable_write as *const (),
+        Call::Confine => raw::captable_confine as *const (),
+        Call::Version => raw::captable_version as *const (),
+    }
+}
+
+/// Where the table that is lent is, the bytes and how many they are, and the place of what is given back.
+struct Places {
+    table: u64,
+    start: u64,
+    length: u64,
+    result: u64,
+}
+
+/// The integers that a call takes, in order, and zeros after them.
+type Arguments = [u64; 5];
+
+/// What a register has above an argument of one byte: by the convention it may be anything.
+const ABOVE_A_BYTE: u64 = 0xA5A5_A5A5_A5A5_A500;
+
+fn arguments(call: Call, sample: &Sample, places: &Places) -> Arguments {
+    let &Places {
+        table,
+        start,
+        length,
+        result,
+    } = places;
+    let (members, object) = (sample.members, ABOVE_A_BYTE | u64::from(sample.object));
+    match call {
+        Call::Step => [table, start, length, 0, 0],
+        Call::Stepped | Call::Read => [result, start, length, 0, 0],
+        Call::Sound | Call::Version => [0; 5],
+        Call::Access => [result, 0, 0, 0, 0],
+        Call::Test => [members, start, length, 0, 0],
+        Call::Chain => [result, members, start, length, object],
+        Call::Write => [start, length, 0, 0, 0],
+        Call::Confine => [start, length, result, 0, 0],
+    }
+}
+
+/// The number that was answered, in a register or in what was given back.
+fn number(call: Call, registers: [u64; 2], result: &[u8]) -> u8 {
+    match call {
         Call::Step | Call::Sound | Call::Write => registers[0] as u8,
         Call::Test => registers[1] as u8,
         Call::Stepped | Call::Access | Call::Read => result[NUMBER_AT],
+        Call::Chain => result[CHAIN_NUMBER_AT],
         Call::Confine => {
             let count = usize::try_from(registers[0]).map_or(0, |count| count.min(256));
             printed_number(&String::from_utf8_lossy(&result[..count]))
         }
         Call::Version => version_number(registers[0] as u32),
-    };
-    (number == sample.number).then(|| depth(&stack, pattern))
+    }
 }
 
 /// The bytes from the deepest one that is not of the pattern to the top.
@@ -83,7 +125,7 @@ fn depth(stack: &[u128], pattern: u8) -> usize {
 unsafe fn call_on(
     stack: &mut [u128],
     function: *const (),
-    arguments: [u64; 3],
+    arguments: Arguments,
     pushed: Option<&raw::Table>,
 ) -> [u64; 2] {
     let mut top = stack.as_mut_ptr_range().end.cast::<u8>();
@@ -101,6 +143,8 @@ unsafe fn call_on(
         in("rdi") arguments[0],
         in("rsi") arguments[1],
         inlateout("rdx") arguments[2] => second,
+        in("rcx") arguments[3],
+        in("r8") arguments[4],
         lateout("rax") first,
         clobber_abi("C"),
     );

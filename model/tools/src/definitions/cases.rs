@@ -1,9 +1,10 @@
 //! The cases: what the definitions are asked, and what the model answers.
 //! Every expected value is computed here, by the model.
 
-use crate::generate::ConfinementCase;
+use crate::generate::{ConfinementCase, ShownCase};
 use crate::rows::rows;
 use yavrinks_model::access::potential_access;
+use yavrinks_model::chain::chain;
 use yavrinks_model::confinement::{confinement_test, Entry, MAX_ENTRIES};
 use yavrinks_model::image::{read, write};
 use yavrinks_model::runs::{clean_at_start, clean_part, run, CleanPart};
@@ -42,6 +43,9 @@ pub enum Question {
         requests: Vec<Request>,
     },
     Test(ConfinementCase),
+    Chain(ShownCase),
+    /// The least chain over the links of a case, as 64 words; the case is one whose chain is shown.
+    LeastChain(ShownCase),
     Access {
         table: Table,
     },
@@ -71,6 +75,8 @@ pub enum Answer {
     /// The replies of a run and its last table.
     Run(Vec<u8>, Table),
     Bound(u8, u64),
+    /// The object numbers of a chain.
+    Chain(u8, Vec<u8>),
     /// The rows of a relation.
     Rows(u8, Vec<u64>),
     Buffer(u8, Vec<u8>),
@@ -99,6 +105,8 @@ const CLEAN: &str = "clean along a run";
 const UNKNOWN: &str = "unknown code";
 const RUN: &str = "run, last reply";
 const TEST: &str = "confinement test";
+const CHAIN: &str = "chain to an object";
+const LEAST_CHAIN: &str = "least chain";
 const ACCESS: &str = "potential access";
 const READ: &str = "image read";
 const WRITTEN: &str = "image written";
@@ -109,9 +117,9 @@ const LIST_BYTES: &str = "list as bytes";
 pub fn subjects() -> Vec<String> {
     let mut subjects = vec![CLEAN.to_string()];
     subjects.extend(Code::ALL.map(Code::label));
-    let others = [UNKNOWN, RUN, TEST, ACCESS, READ, WRITTEN];
-    let bytes = [REQUEST_BYTES, LIST_BYTES];
-    subjects.extend(others.into_iter().chain(bytes).map(String::from));
+    let wholes = [UNKNOWN, RUN, TEST, CHAIN, LEAST_CHAIN, ACCESS];
+    let bytes = [READ, WRITTEN, REQUEST_BYTES, LIST_BYTES];
+    subjects.extend(wholes.into_iter().chain(bytes).map(String::from));
     subjects
 }
 
@@ -133,6 +141,11 @@ impl Question {
             Question::Test(case) => {
                 let (number, bound) = confinement_test(&case.table, case.members, &case.list);
                 Answer::Bound(number, bound)
+            }
+            Question::Chain(ShownCase { test, object })
+            | Question::LeastChain(ShownCase { test, object }) => {
+                let (number, chain) = chain(&test.table, test.members, &test.list, *object);
+                Answer::Chain(number, chain)
             }
             Question::Access { table } => {
                 let (number, access) = potential_access(table);
@@ -162,6 +175,8 @@ impl Question {
             },
             Question::Run { .. } => RUN,
             Question::Test { .. } => TEST,
+            Question::Chain { .. } => CHAIN,
+            Question::LeastChain { .. } => LEAST_CHAIN,
             Question::Access { .. } => ACCESS,
             Question::Read { .. } => READ,
             Question::Write { .. } => WRITTEN,
@@ -178,6 +193,7 @@ impl Answer {
         match self {
             Answer::Table(number, _)
             | Answer::Bound(number, _)
+            | Answer::Chain(number, _)
             | Answer::Rows(number, _)
             | Answer::Buffer(number, _) => *number,
             Answer::Run(replies, _) => replies.last().copied().unwrap_or(0),

@@ -4,8 +4,9 @@
 use super::cases::Question;
 use super::clean::clean_run;
 use crate::generate::{
-    any_damage, any_sound_table, can_meet, confinement_case, image_case, likely_request,
-    sound_table, step_case, Shape, StepCase, CONFINEMENT_NUMBERS, IMAGE_NUMBERS,
+    any_damage, any_sound_table, can_meet, confinement_case, image_case, layered_case,
+    likely_request, shown_case, sound_table, step_case, Shape, StepCase, CONFINEMENT_NUMBERS,
+    IMAGE_NUMBERS, SHOWN_NUMBERS,
 };
 use crate::rng::Rng;
 use yavrinks_model::image::IMAGE_LENGTH;
@@ -18,8 +19,8 @@ use yavrinks_model::wire::encode;
 pub struct Counts {
     /// Runs of which the clean objects are asked.
     pub runs: usize,
-    /// How often everything else is asked: every reply of every code, every number of the test, of
-    /// reading and of writing, and some of all else.
+    /// How often everything else is asked: every reply of every code, every number of the test, of a
+    /// chain, of reading and of writing, and some of all else.
     pub rounds: usize,
 }
 
@@ -38,7 +39,7 @@ type Draw = fn(&mut Rng, usize) -> Question;
 /// All questions of a run. Each kind has a generator of its own, so that the number of one kind
 /// does not change the questions of another.
 pub fn questions(seed: u64, counts: &Counts) -> Vec<Question> {
-    let in_a_round: [(usize, Draw); 9] = [
+    let in_a_round: [(usize, Draw); 11] = [
         (aims().len(), aimed_step),
         (3, telling_step),
         (4, run),
@@ -48,6 +49,8 @@ pub fn questions(seed: u64, counts: &Counts) -> Vec<Question> {
         (6, written),
         (18, request_bytes),
         (6, list_bytes),
+        (12, chain),
+        (WIDTHS.len(), least_chain),
     ];
     let rounds = in_a_round.map(|(count, draw)| (counts.rounds * count, draw));
     let mut seeds = Rng::new(seed);
@@ -243,4 +246,21 @@ fn list_bytes(rng: &mut Rng, turn: usize) -> Question {
     let length = [0, 2, 16, 18, 1, 15][turn % 6];
     let bytes = (0..length).map(|_| rng.byte(0, 255)).collect();
     Question::ListBytes { bytes }
+}
+
+/// Every number, and a chain that is shown once more after every second of them.
+fn chain(rng: &mut Rng, turn: usize) -> Question {
+    let aim = match turn % 3 {
+        2 => 0,
+        place => SHOWN_NUMBERS[(turn / 3 * 2 + place) % SHOWN_NUMBERS.len()],
+    };
+    Question::Chain(shown_case(rng, aim))
+}
+
+/// How many objects are one, two and more links from the stand-in: where there are several, chains of one
+/// length compete.
+const WIDTHS: [&[usize]; 4] = [&[3, 3, 3], &[4, 4], &[4, 3, 4, 3], &[2, 3, 2, 3, 2, 3]];
+
+fn least_chain(rng: &mut Rng, turn: usize) -> Question {
+    Question::LeastChain(layered_case(rng, WIDTHS[turn % WIDTHS.len()]))
 }

@@ -2,7 +2,7 @@
 //! values of the model.
 
 /// The crates that the statements are about. What these stand on comes with them.
-pub const CRATES: [&str; 4] = ["isolation", "image_out", "wire", "entries"];
+pub const CRATES: [&str; 5] = ["isolation", "chains", "image_out", "wire", "entries"];
 
 pub const HEAD: &str = "\
 -- Answers of the model, which the definitions have to give too.
@@ -23,6 +23,10 @@ use Rattle.access.specs.Answers.{accessOf, accessNumber}
 use Rattle.confinement.specs.declared.Tested.{Tested}
 use Rattle.confinement.specs.Refusals.{verdictNumber}
 use Rattle.confinement.specs.Tests.{testOf}
+use Rattle.links.specs.Links.{wordEdge}
+use Rattle.walks.specs.Chains.{leastChain}
+use Rattle.chains.specs.declared.Shown.{Shown}
+use Rattle.chains.specs.Answers.{chainNumber, chainOf}
 use Rattle.image.specs.declared.Loaded.{Loaded}
 use Rattle.image.specs.Images.{readNumber, readOf}
 use Rattle.image_out.specs.Written.{writeNumber, writeRefusal, writtenOf}
@@ -50,6 +54,9 @@ stepped s = (number (s .reply), s .table)
 
 abbrev tested : Tested → ℕ × ℕ
 tested t = (verdictNumber (t .verdict), t .bound)
+
+abbrev shown : Shown → ℕ × ℕ × List ℕ
+shown s = (chainNumber (s .reply), s .count, s .numbers)
 
 abbrev related : Access → ℕ × List ℕ
 related a = (accessNumber (a .reply), a .rows)

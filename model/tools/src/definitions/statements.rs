@@ -3,10 +3,15 @@
 
 use super::cases::{Answer, Case, Part, Question};
 use super::terms;
-use crate::generate::ConfinementCase;
+use crate::generate::{ConfinementCase, ShownCase};
+use yavrinks_model::links::Links;
 use yavrinks_model::runs::CleanPart;
+use yavrinks_model::set;
 use yavrinks_model::step::Request;
-use yavrinks_model::table::Table;
+use yavrinks_model::table::{Capability, Table};
+
+/// The room for the numbers of a chain.
+const CHAIN_ROOM: usize = 63;
 
 /// The declarations of a case. `unfolding` are the names that the checker has to look into.
 pub fn declarations(case: &Case, number: usize, unfolding: &str) -> String {
@@ -35,6 +40,20 @@ struct Writer<'a> {
     text: String,
 }
 
+/// The number of the stand-in among 64: that of the lowest member.
+fn stand_in(test: &ConfinementCase) -> u8 {
+    set::numbers(test.members).next().expect("a member")
+}
+
+/// The numbers one link from each number.
+fn link_words(test: &ConfinementCase) -> [u64; 64] {
+    let mut links = Links::among(&test.table, test.table.born() & !test.members);
+    for &(target, rights) in &test.list {
+        links.add(stand_in(test), Capability::new(target, rights));
+    }
+    links.from
+}
+
 impl Writer<'_> {
     /// Declares the values of a question, and gives the term that answers it.
     fn question(&mut self, question: &Question) -> String {
@@ -54,6 +73,14 @@ impl Writer<'_> {
                 format!("map number (runReplies {table} {asks}), runTable {table} {asks}")
             }
             Question::Test(case) => format!("tested (testOf {})", self.test(case)),
+            Question::Chain(ShownCase { test, object }) => {
+                format!("shown (chainOf {} {object})", self.test(test))
+            }
+            Question::LeastChain(ShownCase { test, object }) => {
+                let words = terms::numbers(link_words(test));
+                let words = self.value("words", "List ℕ", &words);
+                format!("leastChain (wordEdge {words}) {} {object}", stand_in(test))
+            }
             Question::Access { table } => {
                 format!("related (accessOf {})", self.table("table", table))
             }
@@ -125,6 +152,16 @@ impl Writer<'_> {
                 ("List ℕ × Table", format!("({replies}, {table})"))
             }
             Answer::Bound(number, bound) => ("ℕ × ℕ", format!("({number}, {bound})")),
+            Answer::Chain(_, chain) if matches!(question, Question::LeastChain(_)) => {
+                ("List ℕ", format!("({})", terms::bytes(chain)))
+            }
+            Answer::Chain(number, chain) => {
+                let mut numbers = chain.clone();
+                numbers.resize(CHAIN_ROOM, 0);
+                let numbers = self.bytes("numbers", &numbers);
+                let count = chain.len();
+                ("ℕ × ℕ × List ℕ", format!("({number}, {count}, {numbers})"))
+            }
             Answer::Rows(number, rows) => {
                 let rows = terms::numbers(rows.iter().copied());
                 let rows = self.value("rows", "List ℕ", &rows);

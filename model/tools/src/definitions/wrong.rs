@@ -54,6 +54,7 @@ fn other_number(answer: &Answer) -> Answer {
     match &mut answer {
         Answer::Table(number, _)
         | Answer::Bound(number, _)
+        | Answer::Chain(number, _)
         | Answer::Rows(number, _)
         | Answer::Buffer(number, _) => *number = other,
         Answer::Run(replies, _) => {
@@ -73,6 +74,10 @@ fn other_content(rng: &mut Rng, answer: &Answer) -> Answer {
     match &mut answer {
         Answer::Table(_, table) | Answer::Run(_, table) => change_table(rng, table),
         Answer::Bound(_, bound) => *bound ^= 1 << rng.between(0, 63),
+        Answer::Chain(_, chain) => {
+            let place = rng.between(0, chain.len() as u64 - 1) as usize;
+            chain[place] ^= rng.byte(1, 63);
+        }
         Answer::Rows(_, rows) => {
             let row = rng.between(0, rows.len() as u64 - 1) as usize;
             rows[row] ^= 1 << rng.between(0, 63);

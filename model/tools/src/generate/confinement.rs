@@ -94,7 +94,8 @@ fn hide_members(rng: &mut Rng, table: &mut Table, members: u64) {
     }
 }
 
-fn born_non_members(table: &Table, members: u64) -> Vec<u8> {
+/// The born numbers outside the members, in ascending order.
+pub(super) fn born_non_members(table: &Table, members: u64) -> Vec<u8> {
     let mut numbers = numbers_where(table, Record::is_born);
     numbers.retain(|&n| !set::contains(members, n));
     numbers

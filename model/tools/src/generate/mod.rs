@@ -1,9 +1,11 @@
-//! Random tables, requests, tests, images and inputs, each aimed at a chosen outcome.
+//! Random tables, requests, tests, questions for a chain, images and inputs, each aimed at a chosen
+//! outcome.
 //! All of it follows from the seed of the generator that is lent to it.
 
 mod confinement;
 mod images;
 mod requests;
+mod shown;
 mod tables;
 
 pub use confinement::{confinement_case, ConfinementCase, CONFINEMENT_NUMBERS};
@@ -14,6 +16,7 @@ pub use images::{
 pub use requests::{
     actor_mut, any_request, bounded_fields, can_meet, likely_request, step_case, StepCase,
 };
+pub use shown::{layered_case, shown_case, ShownCase, SHOWN_NUMBERS};
 pub use tables::{
     any_damage, any_sound_table, damage, damaged_table, numbers_where, sound_table, Damage, Shape,
 };

@@ -8,6 +8,7 @@ mod images;
 mod layout;
 mod links;
 mod relations;
+mod shown;
 mod steps;
 mod verdicts;
 
@@ -21,6 +22,7 @@ pub use edges::edges;
 pub use images::{image_cases, write_cases, ImageCase, WriteCase};
 pub use links::test_reach;
 pub use relations::access_cases;
+pub use shown::shown_cases;
 pub use steps::step_cases;
 pub use verdicts::test_cases;
 
@@ -65,7 +67,7 @@ impl Part {
 }
 
 /// What makes each part, in the order in which the program runs them.
-const MAKERS: [fn() -> Part; 9] = [
+const MAKERS: [fn() -> Part; 10] = [
     images::part,
     images::writes_part,
     steps::part,
@@ -75,6 +77,7 @@ const MAKERS: [fn() -> Part; 9] = [
     verdicts::part,
     relations::part,
     links::part,
+    shown::part,
 ];
 
 /// All parts, in that order.

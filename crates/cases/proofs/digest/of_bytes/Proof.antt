@@ -1,20 +1,21 @@
--- `cases::digest::of_space` is safe and ends: the measure is the number of bytes left. Assumes nothing.
+-- `of_bytes` is safe and ends: the measure is the number of bytes left. Assumes nothing.
 use Prim.Native.Nat.{_≤_, _-_}
+use lib.ListN.{length}
 use borrow.Author.Needs.{needs}
-use Rattle.cases.proofs.digest.of_space.Statement.{statement}
-use Rattle.cases.proofs.digest.of_space.Tie as tie
+use Rattle.cases.proofs.digest.of_bytes.Statement.{statement}
+use Rattle.cases.proofs.digest.of_bytes.Tie as tie
 
 abbrev Inv-loop : tie.InvT-loop
-Inv-loop bytes all₀ i₀ all i = i ≤ 4096
+Inv-loop bytes all₀ i₀ all i = i ≤ length bytes
 
 abbrev μ-loop : tie.MeasureT-loop
-μ-loop bytes all₀ i₀ all i = 4096 - i
+μ-loop bytes all₀ i₀ all i = length bytes - i
 
 loop-holds : tie.Need-loop-holds Inv-loop μ-loop
 loop-holds c = search needs
 
-element-copy-out-with-byte : tie.Need-element-copy-out-with-byte Inv-loop μ-loop
-element-copy-out-with-byte c = search needs
+shared-slice-read-with-byte : tie.Need-shared-slice-read-with-byte Inv-loop μ-loop
+shared-slice-read-with-byte c = search needs
 
 with-byte-requires : tie.Need-with-byte-requires Inv-loop μ-loop
 with-byte-requires c κs = search needs
@@ -31,14 +32,14 @@ loop-again c = search needs
 returns : tie.Need-returns Inv-loop μ-loop
 returns c = search needs
 
-pub of-space-spec : {M : Type 1} → statement M
-of-space-spec =
+pub of-bytes-spec : {M : Type 1} → statement M
+of-bytes-spec =
     tie.close
     (tie.spec
     Inv-loop
     μ-loop
     loop-holds
-    element-copy-out-with-byte
+    shared-slice-read-with-byte
     with-byte-requires
     add-i
     loop-less

@@ -15,19 +15,8 @@ use Rattle.mask.proofs.Tests.{byCases, byEq, clash, and-true, and-intro, or-cas
 use Rattle.mask.proofs.Below.{any-intro, any-elim}
 use Rattle.relation.specs.Closure.{grow, spread, only, mostRounds, reached}
 use Rattle.relation.proofs.Reach.{Path, stay, step, join, turn, has-grow, has-only, reached-path, path-reached}
-use Rattle.bounds.specs.StandIn.{lowestFrom}
-use Rattle.chains.proofs.Lowest.{Lowest, lowest-from}
-
--- a chain from x to z
-pub data Chain (edge : ℕ → ℕ → Bool) (z : ℕ) : ℕ → List ℕ → Type 0 where
-  last : {x : ℕ} → edge x z ≡ true → Chain edge z x (z ∷ [])
-  more : {x y : ℕ} {cs : List ℕ} → edge x y ≡ true → Chain edge z y cs → Chain edge z x (y ∷ cs)
-
--- number by number, the first list comes first or is the same; both have one length
-pub data First : List ℕ → List ℕ → Type 0 where
-  none : First [] []
-  lower : {a b : ℕ} {cs ds : List ℕ} → a < b → First (a ∷ cs) (b ∷ ds)
-  next : {a : ℕ} {cs ds : List ℕ} → First cs ds → First (a ∷ cs) (a ∷ ds)
+use Rattle.walks.specs.Chains.{Chain, last, more, First, none, lower, next, nextOf, walkDown}
+use Rattle.walks.proofs.Lowest.{Lowest, lowest-from}
 
 -- of two lists of which each comes first, or is the same, there is but one
 pub first-alone : {cs ds : List ℕ} → First cs ds → First ds cs → cs ≡ ds
@@ -43,16 +32,20 @@ module _ (edge : ℕ → ℕ → Bool) (low : (x y : ℕ) → edge x y ≡ true 
   within zero = only z
   within (suc k) = grow (λ a b. edge b a) (within k)
 
+  -- the first k layers, the latest first
+  unfoldable pub layers : ℕ → List ℕ
+  layers zero = []
+  layers (suc k) = within k ∷ layers k
+
   -- the walk of so many edges from x: each time the lowest number of the next layer
-  unfoldable pub walk : ℕ → ℕ → List ℕ
-  walk zero x = []
-  walk (suc k) x = lowestFrom 64 0 (λ y. edge x y && has y (within k)) ∷ walk k (lowestFrom 64 0 (λ y. edge x y && has y (within k)))
+  abbrev pub walk : ℕ → ℕ → List ℕ
+  walk k x = walkDown edge x (layers k)
 
   within-start : has z (within zero) ≡ true
   unfolding within
   within-start = has-only edge z z hz ∙ eq-eqb z z refl
 
-  within-end : (x : ℕ) → x < 64 → has x (within zero) ≡ true → x ≡ z
+  pub within-end : (x : ℕ) → x < 64 → has x (within zero) ≡ true → x ≡ z
   unfolding within
   within-end x h e = eqb-true x z (sym (has-only edge z x h) ∙ e)
 
@@ -60,12 +53,12 @@ module _ (edge : ℕ → ℕ → Bool) (low : (x y : ℕ) → edge x y ≡ true 
   unfolding within
   within-keeps k x h e = has-grow (λ a b. edge b a) (within k) x h ∙ or-left (has x (within k)) _ e
 
-  within-adds : (k x y : ℕ) → edge x y ≡ true → has y (within k) ≡ true → has x (within (suc k)) ≡ true
+  pub within-adds : (k x y : ℕ) → edge x y ≡ true → has y (within k) ≡ true → has x (within (suc k)) ≡ true
   unfolding within
   within-adds k x y e f = has-grow (λ a b. edge b a) (within k) x (low x y e .0)
       ∙ or-right (has x (within k)) _ (any-intro 64 (λ b. has b (within k) && edge x b) y (low x y e .1) (and-intro (has y (within k)) (edge x y) f e))
 
-  within-elim : {P : Type 0} (k x : ℕ) → x < 64 → has x (within (suc k)) ≡ true → (has x (within k) ≡ true → P)
+  pub within-elim : {P : Type 0} (k x : ℕ) → x < 64 → has x (within (suc k)) ≡ true → (has x (within k) ≡ true → P)
       → ((y : ℕ) → edge x y ≡ true → has y (within k) ≡ true → P) → P
   unfolding within
   within-elim k x h e f g = or-cases (has x (within k)) _ (sym (has-grow (λ a b. edge b a) (within k) x h) ∙ e) f
@@ -93,57 +86,58 @@ module _ (edge : ℕ → ℕ → Bool) (low : (x y : ℕ) → edge x y ≡ true 
   -- the next number of the walk --------------------------------------------------------------
   -- a number one edge from x and one edge less from z
   abbrev nearer : ℕ → ℕ → ℕ → Bool
-  nearer k x y = edge x y && has y (within k)
+  nearer k x y = has y (within k) && edge x y
 
-  abbrev nextOf : ℕ → ℕ → ℕ
-  nextOf k x = lowestFrom 64 0 (nearer k x)
+  abbrev onward : ℕ → ℕ → ℕ
+  onward k x = nextOf edge x (within k)
 
-  next-lowest : (k x y : ℕ) → edge x y ≡ true → has y (within k) ≡ true → Lowest (nearer k x) y (nextOf k x)
-  next-lowest k x y e f = lowest-from (nearer k x) 64 0 y (omega arith) (omega (arith, low x y e .1)) (and-intro (edge x y) (has y (within k)) e f)
+  next-lowest : (k x y : ℕ) → edge x y ≡ true → has y (within k) ≡ true → Lowest (nearer k x) y (onward k x)
+  unfolding nextOf
+  next-lowest k x y e f = lowest-from (nearer k x) 64 0 y (omega arith) (omega (arith, low x y e .1)) (and-intro (has y (within k)) (edge x y) f e)
 
   -- where x is k + 1 edges from z, the next number is one edge from x and k from z
   pub record Next (k x : ℕ) : Type 0 where
-    pub edge-to : edge x (nextOf k x) ≡ true
-    pub exact : Exact k (nextOf k x)
+    pub edge-to : edge x (onward k x) ≡ true
+    pub exact : Exact k (onward k x)
 
   next-exact : (k x : ℕ) → x < 64 → Exact (suc k) x → Next k x
   next-exact k x h d = within-elim k x h (d .there)
       (λ e. clash e (d .fewer k (omega arith)))
       (λ y e f.
       let l = next-lowest k x y e f in
-      let p = and-true (edge x (nextOf k x)) (has (nextOf k x) (within k)) (l .passes) in
+      let p = and-true (has (onward k x) (within k)) (edge x (onward k x)) (l .passes) in
       record {
-        edge-to = p .0;
+        edge-to = p .1;
         exact = record {
-          there = p .1;
-          fewer = λ j g. byCases (has (nextOf k x) (within j))
-              (λ q. clash (within-adds j x (nextOf k x) (p .0) q) (d .fewer (suc j) (omega arith)))
+          there = p .0;
+          fewer = λ j g. byCases (has (onward k x) (within j))
+              (λ q. clash (within-adds j x (onward k x) (p .1) q) (d .fewer (suc j) (omega arith)))
               (λ q. q);
         };
       })
 
   -- the walk is a chain
   pub walk-chain : (k x : ℕ) → x < 64 → Exact (suc k) x → Chain edge z x (walk (suc k) x)
-  unfolding walk
+  unfolding walkDown layers
   walk-chain zero x h d =
       let n = next-exact zero x h d in
-      let e = within-end (nextOf zero x) (low x _ (n .edge-to) .1) (n .exact .there) in
+      let e = within-end (onward zero x) (low x _ (n .edge-to) .1) (n .exact .there) in
       subst⁻¹ (λ (y : ℕ). Chain edge z x (y ∷ [])) e (last (subst (λ (y : ℕ). edge x y ≡ true) e (n .edge-to)))
   walk-chain (suc k) x h d =
       let n = next-exact (suc k) x h d in
-      more (n .edge-to) (walk-chain k (nextOf (suc k) x) (low x _ (n .edge-to) .1) (n .exact))
+      more (n .edge-to) (walk-chain k (onward (suc k) x) (low x _ (n .edge-to) .1) (n .exact))
 
   pub walk-length : (k x : ℕ) → length (walk k x) ≡ k
-  unfolding walk
+  unfolding walkDown layers
   walk-length zero x = refl
-  walk-length (suc k) x = ap suc (walk-length k (nextOf k x))
+  walk-length (suc k) x = ap suc (walk-length k (onward k x))
 
   -- none of its length comes before it
   pub walk-first : (k x : ℕ) → x < 64 → Exact (suc k) x → {cs : List ℕ} → Chain edge z x cs → length cs ≡ suc k → First (walk (suc k) x) cs
-  unfolding walk
+  unfolding walkDown layers
   walk-first zero x h d (last e) l =
       let n = next-exact zero x h d in
-      let q = within-end (nextOf zero x) (low x _ (n .edge-to) .1) (n .exact .there) in
+      let q = within-end (onward zero x) (low x _ (n .edge-to) .1) (n .exact .there) in
       subst⁻¹ (λ (y : ℕ). First (y ∷ []) (z ∷ [])) q (next none)
   walk-first zero x h d (more e (last f)) l = absurd (omega (arith, l))
   walk-first zero x h d (more e (more f c)) l = absurd (omega (arith, l))
@@ -152,40 +146,19 @@ module _ (edge : ℕ → ℕ → Bool) (low : (x y : ℕ) → edge x y ≡ true 
       let n = next-exact (suc k) x h d in
       let m : length cs ≡ suc k = omega (arith, l) in
       let w = next-lowest (suc k) x y e (subst (λ (i : ℕ). has y (within i) ≡ true) m (chain-within c)) in
-      byEq (nextOf (suc k) x) y
-      (λ q. subst (λ (u : ℕ). First (nextOf (suc k) x ∷ walk (suc k) (nextOf (suc k) x)) (u ∷ cs)) q
-      (next (walk-first k (nextOf (suc k) x) (low x _ (n .edge-to) .1) (n .exact) (subst⁻¹ (λ (u : ℕ). Chain edge z u cs) q c) m)))
+      byEq (onward (suc k) x) y
+      (λ q. subst (λ (u : ℕ). First (onward (suc k) x ∷ walk (suc k) (onward (suc k) x)) (u ∷ cs)) q
+      (next (walk-first k (onward (suc k) x) (low x _ (n .edge-to) .1) (n .exact) (subst⁻¹ (λ (u : ℕ). Chain edge z u cs) q c) m)))
       (λ q. lower (omega (arith, w .least, q)))
 
   -- which numbers have a chain ---------------------------------------------------------------
-  within-mono : (j m x : ℕ) → x < 64 → j ≤ m → has x (within j) ≡ true → has x (within m) ≡ true
+  pub within-mono : (j m x : ℕ) → x < 64 → j ≤ m → has x (within j) ≡ true → has x (within m) ≡ true
   within-mono j zero x h l e = let f : j ≡ 0 = omega arith in subst (λ (i : ℕ). has x (within i) ≡ true) f e
   within-mono j (suc m) x h l e = byEq j (suc m)
       (λ f. subst (λ (i : ℕ). has x (within i) ≡ true) f e)
       (λ f. within-keeps m x h (within-mono j m x h (omega arith) e))
 
-  -- so many edges, and no fewer: the first layer that has x
-  pub record Found (n x : ℕ) : Type 0 where
-    pub edges : ℕ
-    pub most : edges ≤ n
-    pub exact : Exact edges x
-
-  pub found : (n x : ℕ) → x < 64 → has x (within n) ≡ true → Found n x
-  found zero x h e = record { edges = 0; most = omega arith; exact = record { there = e; fewer = λ j g. absurd (omega arith) } }
-  found (suc n) x h e = byCases (has x (within n))
-      (λ q. let f = found n x h q in record { edges = f .edges; most = omega (arith, f .most); exact = f .exact })
-      (λ q. record {
-        edges = suc n;
-        most = omega arith;
-        exact = record {
-          there = e;
-          fewer = λ j g. byCases (has x (within j))
-              (λ r. clash (within-mono j n x h (omega arith) r) q)
-              (λ r. r);
-        };
-      })
-
-  chain-path : {x : ℕ} {cs : List ℕ} → Chain edge z x cs → Path edge x z
+  pub chain-path : {x : ℕ} {cs : List ℕ} → Chain edge z x cs → Path edge x z
   chain-path (last e) = step stay e
   chain-path (more e c) = join (step stay e) (chain-path c)
 
@@ -200,8 +173,8 @@ module _ (edge : ℕ → ℕ → Bool) (low : (x y : ℕ) → edge x y ≡ true 
       (λ q. within-mono k m x h (omega arith) (rw (q, spread) at e))
       (λ q. spread-within n (suc k) m x h (omega arith) (rw (q, spread) at e))
 
-  -- and a number from which z is reached has a walk of at most 63 edges
-  pub reached-found : (x : ℕ) → x < 64 → has z (reached edge x) ≡ true → Found mostRounds x
+  -- and a number from which z is reached is within 63 edges
+  pub reached-within : (x : ℕ) → x < 64 → has z (reached edge x) ≡ true → has x (within mostRounds) ≡ true
   unfolding reached within
-  reached-found x h e = found mostRounds x h (spread-within mostRounds 0 mostRounds x h (omega arith)
-      (path-reached (λ a b. edge b a) (λ a b q. (low b a q .1, low b a q .0)) z x hz (turn (λ a b. edge b a) (reached-path edge x z hz e))))
+  reached-within x h e = spread-within mostRounds 0 mostRounds x h (omega arith)
+      (path-reached (λ a b. edge b a) (λ a b q. (low b a q .1, low b a q .0)) z x hz (turn (λ a b. edge b a) (reached-path edge x z hz e)))

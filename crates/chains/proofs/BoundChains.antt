@@ -1,0 +1,128 @@
+-- Chains and the bound, where the test is accepted: a chain leads to each object of the bound and to no other number, and the least of
+-- them is the walk through the layers. A path of links that comes back to the stand-in can be cut there, so that every number of a
+-- chain is a non-member. Assumes nothing.
+use mathlib.Core.Path.{_≡_, refl, sym, _∙_, subst}
+use mathlib.Core.Bool.{Bool, true, false, not, _&&_}
+use mathlib.Core.List.{List}
+use Prim.Native.Nat.{ℕ, _<_}
+use lib.Dec.{ltb, eqb}
+use borrow.Author.Tests.{ltb-true, ltb-false, eqb-true, not-true}
+use Rattle.mask.specs.Sets.{has}
+use Rattle.mask.proofs.Tests.{byCases, clash, and-true, and-intro}
+use Rattle.mask.proofs.Bits.{has-high}
+use Rattle.table.specs.declared.Capability.{Capability}
+use Rattle.table.specs.declared.Table.{Table}
+use Rattle.table.proofs.SoundFacts.{Sound}
+use Rattle.relation.specs.Relation.{Holding, takesPart}
+use Rattle.relation.specs.Closure.{bothTakePart, link, reached, influencedSet}
+use Rattle.relation.proofs.Reach.{Path, stay, step, reached-path, path-reached}
+use Rattle.bounds.specs.StandIn.{standIn, testNode, testHolding, boundOf}
+use Rattle.bounds.proofs.Exact.{node-low, bound-bit, bound-lt}
+use Rattle.confinement.proofs.TestFacts.{Facts}
+use Rattle.confinement.proofs.Held.{node-x}
+use Rattle.walks.specs.Chains.{Chain, last, more, leastChain}
+use Rattle.chains.specs.Links.{chainLink}
+use Rattle.walks.proofs.Shortest.{walk-chain, chain-path}
+use Rattle.walks.proofs.Layered.{Walks, least-walks}
+use Rattle.chains.proofs.LinkFacts.{linked-test}
+
+module _ (t : Table) (members : ℕ) (list : List Capability) (d : Sound t) (ok : Facts t members list) where
+  abbrev H : Holding
+  H = testHolding t members list
+
+  abbrev X : ℕ
+  X = standIn members
+
+  abbrev edge : ℕ → ℕ → Bool
+  edge = chainLink t members list
+
+  -- a link of a chain is a link of the test's holding, to a non-member
+  pub record Edge (u v : ℕ) : Type 0 where
+    pub out : has v members ≡ false
+    pub linked : link H u v ≡ true
+
+  pub edge-facts : (u v : ℕ) → edge u v ≡ true → Edge u v
+  unfolding chainLink
+  edge-facts u v e = let p = and-true (not (has v members)) _ e in record { out = not-true _ (p .0); linked = sym (linked-test t members list d ok u v) ∙ p .1 }
+
+  edge-intro : (u v : ℕ) → has v members ≡ false → link H u v ≡ true → edge u v ≡ true
+  unfolding chainLink
+  edge-intro u v o e = and-intro (not (has v members)) _ (rw o refl) (linked-test t members list d ok u v ∙ e)
+
+  link-nodes : (u v : ℕ) → link H u v ≡ true → (testNode t members u ≡ true) × (testNode t members v ≡ true)
+  unfolding link bothTakePart
+  link-nodes u v e = and-true (testNode t members u) (testNode t members v) (and-true (testNode t members u && testNode t members v) _ e .0)
+
+  link-low : (u v : ℕ) → link H u v ≡ true → (u < 64) × (v < 64)
+  link-low u v e = let n = link-nodes u v e in (node-low t members list u (n .0), node-low t members list v (n .1))
+
+  pub edge-low : (u v : ℕ) → edge u v ≡ true → (u < 64) × (v < 64)
+  edge-low u v e = link-low u v (edge-facts u v e .linked)
+
+  -- who takes part is the stand-in, if a member
+  node-x-only : (n : ℕ) → testNode t members n ≡ true → has n members ≡ true → n ≡ X
+  unfolding testNode
+  node-x-only n e m = eqb-true n X (and-true (ltb n 64) (eqb n X) (rw (m, testNode) at e) .1)
+
+  -- and else a born non-member
+  pub node-born : (n : ℕ) → testNode t members n ≡ true → has n members ≡ false → takesPart t n ≡ true
+  unfolding testNode
+  node-born n e o = rw (o, testNode) at e
+
+  -- the bound is what links reach from the stand-in -----------------------------------------------
+  pub bound-low : (z : ℕ) → has z (boundOf t members list) ≡ true → z < 64
+  bound-low z e = byCases (ltb z 64) (ltb-true z 64)
+      (λ q. clash e (has-high z (boundOf t members list) 64 (bound-lt t members list) (ltb-false z 64 q)))
+
+  bound-is : (z : ℕ) → z < 64 → has z (boundOf t members list) ≡ (has z (reached (link H) X) && not (has z members))
+  unfolding influencedSet
+  bound-is z h = bound-bit t members list z h ∙ rw (node-x t members list d ok, influencedSet) refl
+
+  -- a path of links, cut where it comes back to the stand-in
+  cut : {P : Type 0} {y : ℕ} → Path (link H) X y → (y ≡ X → P) → (Path edge X y → P) → P
+  cut stay f g = f refl
+  cut {y = z} (step {y = y} p e) f g = byCases (has z members)
+      (λ m. f (node-x-only z (link-nodes y z e .1) m))
+      (λ m. cut p
+      (λ q. g (step stay (edge-intro X z m (subst (λ (u : ℕ). link H u z ≡ true) q e))))
+      (λ q. g (step q (edge-intro y z m e))))
+
+  keep : {y z : ℕ} → Path edge y z → Path (link H) y z
+  keep stay = stay
+  keep (step {y = y} {z = z} p e) = step (keep p) (edge-facts y z e .linked)
+
+  pub bound-out : (z : ℕ) → has z (boundOf t members list) ≡ true → has z members ≡ false
+  bound-out z e = not-true _ (and-true (has z (reached (link H) X)) _ (sym (bound-is z (bound-low z e)) ∙ e) .1)
+
+  pub bound-apart : (z : ℕ) → has z (boundOf t members list) ≡ true → (X ≡ z → ⊥)
+  bound-apart z e q = clash (ok .lowest) (rw (← q) at (bound-out z e))
+
+  bound-reached : (z : ℕ) → has z (boundOf t members list) ≡ true → has z (reached edge X) ≡ true
+  bound-reached z e =
+      let h = bound-low z e in
+      let p = reached-path (link H) X z h (and-true (has z (reached (link H) X)) _ (sym (bound-is z h) ∙ e) .0) in
+      cut p (λ q. absurd (bound-apart z e (sym q))) (λ q. path-reached edge edge-low X z (ok .low) q)
+
+  pub bound-walks : (z : ℕ) → (e : has z (boundOf t members list) ≡ true) → Walks edge edge-low z (bound-low z e) X
+  bound-walks z e = least-walks edge edge-low z (bound-low z e) X (ok .low) (bound-apart z e) (bound-reached z e)
+
+  -- In plain words: an object of the bound has its least chain
+  pub bound-chain : (z : ℕ) → has z (boundOf t members list) ≡ true → Chain edge z X (leastChain edge X z)
+  bound-chain z e =
+      let w = bound-walks z e in
+      rw (w .walks) (walk-chain edge edge-low z (bound-low z e) (w .count) X (ok .low) (w .exact))
+
+  -- the last link of a chain
+  chain-end : {P : Type 0} {x z : ℕ} {cs : List ℕ} → Chain edge z x cs → ((y : ℕ) → edge y z ≡ true → P) → P
+  chain-end {x = x} (last e) f = f x e
+  chain-end (more e c) f = chain-end c f
+
+  -- In plain words: what a chain leads to is a born non-member, in the bound
+  pub chain-born : {x z : ℕ} {cs : List ℕ} → Chain edge z x cs → takesPart t z ≡ true
+  chain-born {x} {z} c = chain-end c (λ y e. let f = edge-facts y z e in node-born z (link-nodes y z (f .linked) .1) (f .out))
+
+  pub chain-bound : {z : ℕ} {cs : List ℕ} → Chain edge z X cs → has z (boundOf t members list) ≡ true
+  chain-bound {z} c = chain-end c (λ y e.
+      let f = edge-facts y z e in
+      bound-is z (edge-low y z e .1)
+      ∙ and-intro _ _ (path-reached (link H) link-low X z (ok .low) (keep (chain-path edge edge-low z (edge-low y z e .1) c))) (rw (f .out) refl))

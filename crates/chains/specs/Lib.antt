@@ -1,0 +1,5 @@
+-- Document 02, 2.1: links, which chain is shown, and what is claimed of it.
+pub mod Links
+pub mod Answers
+pub mod Exactness
+pub mod Helpers

@@ -1,0 +1,6 @@
+-- The least chain over any edges, and the loops that find it.
+pub mod Lowest
+pub mod Shortest
+pub mod Layered
+pub mod Lengths
+pub mod Loops

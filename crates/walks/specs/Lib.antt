@@ -1,0 +1,3 @@
+-- Chains over an edge relation.
+pub mod Chains
+pub mod Helpers
