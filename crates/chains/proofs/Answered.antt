@@ -2,7 +2,7 @@
 use mathlib.Core.Path.{_≡_, refl}
 use mathlib.Core.Bool.{Bool, true, false, _||_}
 use mathlib.Core.List.{List}
-use Prim.Native.Nat.{ℕ, zero, suc, _≤_}
+use Prim.Native.Nat.{ℕ, _≤_}
 use native.Mathlib.Omega.{arith}
 use lib.Dec.{ltb, eqb}
 use lib.ListN.{length}
@@ -50,11 +50,7 @@ unfolding badObject
 unfit-object t members z d p = or-left (ltb 63 z || isUnborn (recordAt t z)) (has z members)
     (byCases (isUnborn (recordAt t z))
     (λ e. or-right (ltb 63 z) (isUnborn (recordAt t z)) e)
-    (λ e. clash (takes-part t d z (positive (statusAt t z) (eqb-false (statusAt t z) 0 e))) p))
-  where
-    positive : (n : ℕ) → (n ≡ 0 → ⊥) → 1 ≤ n
-    positive zero f = absurd (f refl)
-    positive (suc n) f = omega arith
+    (λ e. let f = eqb-false (statusAt t z) 0 e in clash (takes-part t d z (omega (arith, f))) p))
 
 -- what the checks found ------------------------------------------------------------------------------
 module _ (t : Table) (members : ℕ) (list : List Capability) (z : ℕ) where

@@ -16,7 +16,7 @@ use Rattle.table.specs.Cells.{slotAt, hasWk}
 use Rattle.table.proofs.SoundFacts.{Sound}
 use Rattle.relation.specs.Relation.{Right, rd, wr, wk, tx, bitAt, Holding, holdsIn}
 use Rattle.relation.specs.Closure.{bothTakePart, holdsStrong, link}
-use Rattle.relation.proofs.Exact.{isStrong}
+use Rattle.relation.proofs.Exact.{isStrong, bond-link, held-bond, held-link}
 use Rattle.links.specs.Links.{hasStrong, capabilityLink}
 use Rattle.bounds.specs.StandIn.{entryAt, listed as listedIn, standIn, testNode, testHeld, testHolding}
 use Rattle.bounds.proofs.Exact.{node-low}
@@ -131,30 +131,11 @@ module _ (t : Table) (members : ℕ) (list : List Capability) where
     abbrev Held : Right → ℕ → ℕ → Type 0
     Held b x y = Has t members list d ok b x y
 
-    holds-strong : (b : Right) (x y : ℕ) → isStrong b ≡ true → testHeld t members list b x y ≡ true → holdsStrong H x y ≡ true
-    unfolding holdsStrong
-    holds-strong rd x y s e = or-left (H .held rd x y || H .held wr x y) _ (or-left (H .held rd x y) _ e)
-    holds-strong wr x y s e = or-left (H .held rd x y || H .held wr x y) _ (or-right (H .held rd x y) _ e)
-    holds-strong wk x y s e = absurd (false≢true s)
-    holds-strong tx x y s e = or-right (H .held rd x y || H .held wr x y) _ e
-
     link-on : (b : Right) (x y : ℕ) → isStrong b ≡ true → Held b x y → link H x y ≡ true
-    unfolding link bothTakePart
-    link-on b x y s h = and-intro (testNode t members x && testNode t members y) _ (and-intro _ _ (h .holder) (has-target t members list d ok h))
-        (or-left (holdsStrong H x y || holdsStrong H y x) _ (or-left (holdsStrong H x y) _ (holds-strong b x y s (h .held))))
+    link-on b x y s h = bond-link H x y (held-bond H b x y (h .holder) (has-target t members list d ok h) s (h .held))
 
     link-back : (b : Right) (x y : ℕ) → Held b x y → link H y x ≡ true
-    unfolding link bothTakePart
-    link-back b x y h = and-intro (testNode t members y && testNode t members x) _ (and-intro _ _ (has-target t members list d ok h) (h .holder)) (each b (h .held))
-      where
-        strong : (c : Right) → isStrong c ≡ true → testHeld t members list c x y ≡ true → (holdsStrong H y x || holdsStrong H x y || H .held wk x y) ≡ true
-        strong c s e = or-left (holdsStrong H y x || holdsStrong H x y) _ (or-right (holdsStrong H y x) _ (holds-strong c x y s e))
-
-        each : (c : Right) → testHeld t members list c x y ≡ true → (holdsStrong H y x || holdsStrong H x y || H .held wk x y) ≡ true
-        each rd e = strong rd refl e
-        each wr e = strong wr refl e
-        each wk e = or-right (holdsStrong H y x || holdsStrong H x y) _ e
-        each tx e = strong tx refl e
+    link-back b x y h = held-link H b x y (h .holder) (has-target t members list d ok h) (h .held)
 
     cap-link : (n : ℕ) (c : Capability) (u v : ℕ) → ((b : Right) → has (bitAt b) (c .rights) ≡ true → Held b n (c .target)) → capabilityLink n c u v ≡ true → link H u v ≡ true
     unfolding capabilityLink

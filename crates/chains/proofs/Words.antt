@@ -3,23 +3,23 @@
 use mathlib.Core.Path.{_≡_, refl, sym, _∙_, ap, fun-ext}
 use mathlib.Core.Bool.{Bool, true, false, not, _&&_, and-comm}
 use mathlib.Core.List.{List}
-use Prim.Native.Nat.{ℕ, _≤_, _<_}
+use Prim.Native.Nat.{ℕ, _^_, _≤_, _<_}
 use native.Mathlib.Omega.{arith}
 use lib.Dec.{ltb}
 use lib.ListN.{getD, List·getD-eq-default}
 use borrow.Author.Tests.{ltb-true, ltb-false, lt-ltb, eqb-true}
 use Rattle.mask.specs.Sets.{has, bits, lessOf}
 use Rattle.mask.proofs.Tests.{byCases, and-intro}
-use Rattle.mask.proofs.Bits.{has-bits, bits-same, bits-lt, has-zero, has-high}
+use Rattle.mask.proofs.Bits.{bits-same, bits-lt, has-zero, has-high}
 use Rattle.table.specs.declared.Capability.{Capability}
 use Rattle.table.specs.declared.Table.{Table}
 use Rattle.table.specs.Cells.{emptySlot}
 use Rattle.table.proofs.Lists.{length-tabulate, getD-tabulate, as-tabulate}
 use Rattle.table.proofs.Cells.{Sized}
 use Rattle.table.proofs.SoundFacts.{Sound, sound-facts}
-use Rattle.relation.specs.Closure.{link}
 use Rattle.access.specs.Answers.{bornOutside}
 use Rattle.links.specs.Links.{linkWords, wordEdge, slotHolding, joined, entryLink}
+use Rattle.links.proofs.Edges.{words-edge, links-are-edges}
 use Rattle.bounds.specs.declared.EntryList.{EntryList}
 use Rattle.bounds.specs.StandIn.{entriesOf, standIn, testHolding, boundOf}
 use Rattle.confinement.specs.Refusals.{verdictNumber, verdictOf}
@@ -45,10 +45,9 @@ module _ (t : Table) (members : ℕ) (list : List Capability) (d : Sound t) (ok 
 
   -- the words of the test's holding, without the members
   less-same : (x v : ℕ) → x < 64 → v < 64 → (has v (getD (linkWords (testHolding t members list)) x 0) && not (has v members)) ≡ edge x v
-  unfolding linkWords chainLink
+  unfolding chainLink
   less-same x v hx hv =
-      ap (λ (b : Bool). b && not (has v members)) (ap (has v) (getD-tabulate 64 (λ u. bits 64 (link (testHolding t members list) u)) x 0 hx)
-      ∙ has-bits 64 v (link (testHolding t members list) x) hv ∙ sym (linked-test t members list d ok x v))
+      ap (λ (b : Bool). b && not (has v members)) (links-are-edges (testHolding t members list) x v hx hv ∙ sym (linked-test t members list d ok x v))
       ∙ and-comm (linked t members list x v) _
 
   pub less-links : lessWords (linkWords (testHolding t members list)) members ≡ chainWords t members list
@@ -64,21 +63,25 @@ module _ (t : Table) (members : ℕ) (list : List Capability) (d : Sound t) (ok 
   unfolding chainWords
   words-above u h = List·getD-eq-default (chainWords t members list) 0 (omega (arith, h, length-tabulate 64 (λ a. bits 64 (edge a))))
 
-  word-at : (u : ℕ) → u < 64 → getD (chainWords t members list) u 0 ≡ bits 64 (edge u)
+  word-lt : (u : ℕ) → u < 64 → getD (chainWords t members list) u 0 < 2 ^ 64
   unfolding chainWords
-  word-at u h = getD-tabulate 64 (λ a. bits 64 (edge a)) u 0 h
+  word-lt u h = rw (getD-tabulate 64 (λ a. bits 64 (edge a)) u 0 h) (bits-lt 64 (edge u))
 
-  words-edge : (u v : ℕ) → wordEdge (chainWords t members list) u v ≡ edge u v
-  words-edge u v = byCases (ltb u 64)
-      (λ e. ap (has v) (word-at u (ltb-true u 64 e)) ∙ byCases (ltb v 64)
-      (λ f. has-bits 64 v (edge u) (ltb-true v 64 f))
-      (λ f. has-high v (bits 64 (edge u)) 64 (bits-lt 64 (edge u)) (ltb-false v 64 f) ∙ sym (out-of-range u v (λ p. absurd (omega (arith, p .1, ltb-false v 64 f))))))
+  inside-edge : (u v : ℕ) → u < 64 → v < 64 → wordEdge (chainWords t members list) u v ≡ edge u v
+  unfolding chainWords
+  inside-edge = words-edge edge
+
+  all-edges : (u v : ℕ) → wordEdge (chainWords t members list) u v ≡ edge u v
+  all-edges u v = byCases (ltb u 64)
+      (λ e. byCases (ltb v 64)
+      (λ f. inside-edge u v (ltb-true u 64 e) (ltb-true v 64 f))
+      (λ f. has-high v _ 64 (word-lt u (ltb-true u 64 e)) (ltb-false v 64 f) ∙ sym (out-of-range u v (λ p. absurd (omega (arith, p .1, ltb-false v 64 f))))))
       (λ e. ap (has v) (words-above u (ltb-false u 64 e)) ∙ has-zero v ∙ sym (out-of-range u v (λ p. absurd (omega (arith, p .0, ltb-false u 64 e)))))
 
   -- In plain words: the least chain over the words is the one over the links
   pub least-words : (words : List ℕ) (x z : ℕ) → words ≡ chainWords t members list → leastChain (wordEdge words) x z ≡ leastChain edge x z
   least-words words x z e = ap (λ (w : List ℕ). leastChain (wordEdge w) x z) e
-      ∙ ap (λ (f : ℕ → ℕ → Bool). leastChain f x z) (fun-ext (λ u. fun-ext (λ v. words-edge u v)))
+      ∙ ap (λ (f : ℕ → ℕ → Bool). leastChain f x z) (fun-ext (λ u. fun-ext (λ v. all-edges u v)))
 
   pub least-in-range : (words : List ℕ) (x z : ℕ) → words ≡ chainWords t members list → x ≡ standIn members → has z (boundOf t members list) ≡ true
       → inRange (leastChain (wordEdge words) x z) ≡ true

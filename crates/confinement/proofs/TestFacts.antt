@@ -3,13 +3,13 @@
 use mathlib.Core.Path.{_≡_, refl, ap}
 use mathlib.Core.Bool.{Bool, true, false, not, _&&_, _||_, false≢true}
 use mathlib.Core.List.{List}
-use Prim.Native.Nat.{ℕ, zero, suc, _+_, _≤_, _<_}
+use Prim.Native.Nat.{ℕ, suc, _≤_, _<_}
 use native.Mathlib.Omega.{arith}
 use lib.Dec.{ltb, eqb}
 use lib.ListN.{length}
 use borrow.Author.Tests.{ltb-false, eqb-true, not-false}
 use Rattle.mask.specs.Sets.{has}
-use Rattle.mask.proofs.Tests.{byCases, clash, and-true, or-none, imply-use}
+use Rattle.mask.proofs.Tests.{and-true, or-none, imply-use}
 use Rattle.mask.proofs.Below.{any-none, any-elim}
 use Rattle.table.specs.declared.Capability.{Capability}
 use Rattle.table.specs.declared.Table.{Table}
@@ -19,6 +19,7 @@ use Rattle.relation.specs.Relation.{Right, rd, wr, wk, tx, bitAt, takesPart}
 use Rattle.confinement.specs.declared.Verdict.{Verdict}
 use Rattle.confinement.specs.declared.Verdict.the-variants.{Accepted, TableUnsound, MembersInvalid, ListInvalid, RightUnlisted, MemberHeld}
 use Rattle.bounds.specs.StandIn.{entryAt, listed, lowestFrom, standIn}
+use Rattle.bounds.proofs.Passing.{lowest-from}
 use Rattle.confinement.specs.Refusals.{verdictNumber, refuse, badMembers, badEntry, badList, rightListed, allListed, badHeld, memberHeld, verdictOf}
 
 pub record Facts (t : Table) (members : ℕ) (list : List Capability) : Type 0 where
@@ -43,14 +44,8 @@ passed true why k rest p e = absurd (omega arith)
 passed false why k rest p e = (refl, e)
 
 -- the lowest number that passes a test passes it, if some number does
-lowest-is : (n i : ℕ) (p : ℕ → Bool) (k : ℕ) → i ≤ k → k < i + n → p k ≡ true → (lowestFrom n i p < i + n) × (p (lowestFrom n i p) ≡ true)
-unfolding lowestFrom
-lowest-is zero i p k l h e = absurd (omega arith)
-lowest-is (suc n) i p k l h e = byCases (p i)
-    (λ f. rw (f, lowestFrom) (omega arith, f))
-    (λ f. let ne : (k ≡ i → ⊥) = λ q. clash (rw q at e) f in
-    let r = lowest-is n (suc i) p k (omega arith) (omega arith) e in
-    rw (f, lowestFrom) (omega (arith, r .0), r .1))
+lowest-is : (p : ℕ → Bool) (k : ℕ) → k < 64 → p k ≡ true → (lowestFrom 64 0 p < 64) × (p (lowestFrom 64 0 p) ≡ true)
+lowest-is p k h e = let l = lowest-from p 64 0 k (omega arith) (omega arith) e in (omega (arith, l .least), l .passes)
 
 listed-each : (list : List Capability) (c : Capability) (b : Right) → allListed list c ≡ true → has (bitAt b) (c .rights) ≡ true → listed list b (c .target) ≡ true
 unfolding allListed
@@ -82,7 +77,7 @@ module _ (t : Table) (members : ℕ) (list : List Capability) where
   unfolding badMembers standIn
   members-facts e =
       let p = or-none _ _ e in (
-        any-elim 64 _ (not-false _ (p .0)) (λ n h f. lowest-is 64 0 (λ k. has k members) n (omega arith) (omega arith) f),
+        any-elim 64 _ (not-false _ (p .0)) (λ n h f. lowest-is (λ k. has k members) n h f),
         λ n h f. not-false _ (none-and (has n members) _ (any-none 64 _ (p .1) n h) f),
       )
 

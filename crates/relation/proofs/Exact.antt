@@ -50,7 +50,7 @@ module _ (h : Holding) where
       let q = part-facts x y (p .0) in
       and-intro _ _ (part-intro y x (q .1) (q .0)) (or-swap (holdsStrong h x y) (holdsStrong h y x) (p .1))
 
-  bond-link : (x y : ℕ) → bond h x y ≡ true → link h x y ≡ true
+  pub bond-link : (x y : ℕ) → bond h x y ≡ true → link h x y ≡ true
   unfolding bond link
   bond-link x y e =
       let p = and-true (bothTakePart h x y) (holdsStrong h x y || holdsStrong h y x) e in
@@ -63,14 +63,14 @@ module _ (h : Holding) where
   strong-held wk x y f e = absurd (false≢true f)
   strong-held tx x y f e = or-right (h .held rd x y || h .held wr x y) _ e
 
-  held-bond : (b : Right) (x y : ℕ) → h .node x ≡ true → h .node y ≡ true → isStrong b ≡ true → h .held b x y ≡ true → bond h x y ≡ true
+  pub held-bond : (b : Right) (x y : ℕ) → h .node x ≡ true → h .node y ≡ true → isStrong b ≡ true → h .held b x y ≡ true → bond h x y ≡ true
   unfolding bond
   held-bond b x y p q f e = and-intro _ _ (part-intro x y p q) (or-left (holdsStrong h x y) _ (strong-held b x y f e))
 
   strong-link : (b : Right) (x y : ℕ) → isStrong b ≡ true → h .node x ≡ true → h .node y ≡ true → h .held b x y ≡ true → linkBack h x y ≡ true
   strong-link b x y f p q e = bond-link y x (bond-sym x y (held-bond b x y p q f e))
 
-  held-link : (b : Right) (x y : ℕ) → h .node x ≡ true → h .node y ≡ true → h .held b x y ≡ true → linkBack h x y ≡ true
+  pub held-link : (b : Right) (x y : ℕ) → h .node x ≡ true → h .node y ≡ true → h .held b x y ≡ true → linkBack h x y ≡ true
   unfolding link
   held-link rd x y = strong-link rd x y refl
   held-link wr x y = strong-link wr x y refl

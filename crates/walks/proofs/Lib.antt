@@ -1,5 +1,4 @@
 -- The least chain over any edges, and the loops that find it.
-pub mod Lowest
 pub mod Shortest
 pub mod Layered
 pub mod Lengths

@@ -2,11 +2,11 @@
 -- them, each law a turn. Assumes nothing.
 use mathlib.Core.Path.{_≡_, refl, sym, _∙_, ap, ap₂}
 use mathlib.Core.Bool.{Bool, true, false, not, _&&_, _||_}
-use mathlib.Core.List.{List, [], _∷_, _++_}
+use mathlib.Core.List.{List, [], _∷_, _++_, append-nil, append-assoc}
 use Prim.Native.Nat.{ℕ, zero, suc, _+_, _-_, _≤_, _<_}
 use native.Mathlib.Omega.{arith}
 use lib.Dec.{ltb}
-use lib.ListN.{length, length-set, getD, set, replicate}
+use lib.ListN.{length, length-append, length-set, getD, set, replicate}
 use lib.Seq.{getD-set-same, getD-set-other}
 use borrow.Author.Tests.{ltb-true}
 use Rattle.mask.specs.Sets.{has, anyBelow, commonOf, disjointOf}
@@ -156,14 +156,6 @@ module _ (edge : ℕ → ℕ → Bool) (x : ℕ) (sets : List ℕ) (count : ℕ)
   pub next-low : (numbers : List ℕ) (at i m : ℕ) → count - i ≡ suc m → Walking numbers at i → nextOf edge at (getD sets m 0) < 64
   next-low numbers at i m q d = head-low _ _ (ap inRange (sym (left at i m q)) ∙ d .range) .0
 
-  app-more : (ls : List ℕ) (c : ℕ) (cs : List ℕ) → (ls ++ (c ∷ [])) ++ cs ≡ ls ++ (c ∷ cs)
-  app-more [] c cs = refl
-  app-more (a ∷ ls) c cs = ap (λ (l : List ℕ). a ∷ l) (app-more ls c cs)
-
-  length-more : (ls : List ℕ) (c : ℕ) → length (ls ++ (c ∷ [])) ≡ suc (length ls)
-  length-more [] c = refl
-  length-more (a ∷ ls) c = ap suc (length-more ls c)
-
   pub walking-more : (numbers new : List ℕ) (at i m c j : ℕ) → count ≤ 63 → count - i ≡ suc m → c ≡ nextOf edge at (getD sets m 0)
       → new ≡ set numbers i c → j ≡ i + 1 → Walking numbers at i → Walking new c j
   walking-more numbers new at i m c j h q e f g d =
@@ -174,21 +166,17 @@ module _ (edge : ℕ → ℕ → Bool) (x : ℕ) (sets : List ℕ) (count : ℕ)
         few = omega arith;
         low = rw e (r .0);
         done = d .done ++ (c ∷ []);
-        long = length-more (d .done) c ∙ ap suc (d .long) ∙ omega arith;
+        long = length-append (d .done) (c ∷ []) ∙ omega (arith, d .long);
         put = f ∙ ap (λ (a : List ℕ). set a i c) (d .put) ∙ ap (λ (k : ℕ). set (padded 63 0 (d .done)) k c) (sym (d .long)) ∙ padded-push 63 0 (d .done) c (omega (arith, d .long));
-        rest = app-more (d .done) c _
+        rest = append-assoc (d .done) (c ∷ []) _
             ∙ ap₂ (λ (b : ℕ) (k : ℕ). d .done ++ (b ∷ walkDown edge b (latestFirst sets k))) e n ∙ ap (λ (a : List ℕ). d .done ++ a) (sym l) ∙ d .rest;
         range = ap₂ (λ (b : ℕ) (k : ℕ). inRange (walkDown edge b (latestFirst sets k))) e n ∙ r .1;
       }
-
-  app-none : (ls : List ℕ) → ls ++ [] ≡ ls
-  app-none [] = refl
-  app-none (a ∷ ls) = ap (λ (l : List ℕ). a ∷ l) (app-none ls)
 
   pub walking-end : (numbers : List ℕ) (at i : ℕ) → count ≤ i → Walking numbers at i → (numbers ≡ padded 63 0 all) × (count ≡ length all)
   unfolding latestFirst walkDown
   walking-end numbers at i h d =
       let n : count - i ≡ 0 = omega arith in (
-        d .put ∙ ap (padded 63 0) (sym (app-none (d .done)) ∙ ap (λ (k : ℕ). d .done ++ walkDown edge at (latestFirst sets k)) (sym n) ∙ d .rest),
+        d .put ∙ ap (padded 63 0) (sym (append-nil (d .done)) ∙ ap (λ (k : ℕ). d .done ++ walkDown edge at (latestFirst sets k)) (sym n) ∙ d .rest),
         sym (walk-long edge x (latestFirst sets count) ∙ latest-long sets count),
       )

@@ -16,7 +16,7 @@ use Rattle.mask.proofs.Below.{any-intro, any-elim}
 use Rattle.relation.specs.Closure.{grow, spread, only, mostRounds, reached}
 use Rattle.relation.proofs.Reach.{Path, stay, step, join, turn, has-grow, has-only, reached-path, path-reached}
 use Rattle.walks.specs.Chains.{Chain, last, more, First, none, lower, next, nextOf, walkDown}
-use Rattle.walks.proofs.Lowest.{Lowest, lowest-from}
+use Rattle.bounds.proofs.Passing.{Lowest, lowest-from}
 
 -- of two lists of which each comes first, or is the same, there is but one
 pub first-alone : {cs ds : List ℕ} → First cs ds → First ds cs → cs ≡ ds
