@@ -1,6 +1,7 @@
 /*
  * A small main loop over the capability table: load an image, serve the mailboxes, test a newly loaded
- * subsystem and say how it gets at an object, write the image back.
+ * subsystem and say how it gets at an object, judge a table of an older rig by the same test, write the image
+ * back.
  *
  *     firmware IMAGE NEW_IMAGE
  *
@@ -124,17 +125,17 @@ static int load(const char *path)
 static const uint64_t members = (uint64_t)1 << 5 | (uint64_t)1 << 10;
 static const uint8_t list[2] = {1, CAPTABLE_WR};
 
-/* Tests the subsystem. */
-static int admit(void)
+/* Tests a subsystem of a table, which may hold the one entry. */
+static int admit(const char *who, const captable_table *in, uint64_t set, const uint8_t entry[2])
 {
-    captable_finding finding = captable_test(table, members, list, sizeof list);
+    captable_finding finding = captable_test(*in, set, entry, 2);
     unsigned n;
 
     if (finding.number != CAPTABLE_DONE) {
-        fprintf(stderr, "subsystem refused %u, %s\n", finding.number, captable_reason(finding.number));
+        fprintf(stderr, "%s refused %u, %s\n", who, finding.number, captable_reason(finding.number));
         return 1;
     }
-    printf("subsystem accepted; it can influence:");
+    printf("%s accepted; it can influence:", who);
     for (n = 0; n < CAPTABLE_OBJECTS; n++)
         if (finding.bound >> n & 1)
             printf(" %u", n);
@@ -157,6 +158,30 @@ static int explain(uint8_t object)
         printf(" %u", shown.numbers[k]);
     printf("\n");
     return 0;
+}
+
+/* The take-and-grant table of an older rig. */
+static const uint8_t older[17] = {
+    0, 17, 1, 5, /* 17 bytes, version 1, five entities */
+    1, 2,  16,   /* 0 has Store over 2 */
+    1, 0,  2,    /* 1, a maker's routine, has Write over 0 */
+    0,           /* 2 has nothing */
+    1, 2,  16,   /* 3 has Store over 2 */
+    1, 2,  8     /* 4 has Create over 2, of which nothing is left here */
+};
+
+/* Brings that table in and tests its routine, which may hold wr over 0. Store links lead from 0 to 2 and on to
+ * 3, so these are influenced too. */
+static int bring_in(void)
+{
+    static const uint8_t entry[2] = {0, CAPTABLE_WR};
+    captable_outcome outcome = captable_import(older, sizeof older);
+
+    if (outcome.number != CAPTABLE_DONE) {
+        fprintf(stderr, "import refused %u, %s\n", outcome.number, captable_reason(outcome.number));
+        return 1;
+    }
+    return admit("the older rig's routine", &outcome.table, (uint64_t)1 << 1, entry);
 }
 
 /* Writes the image back. */
@@ -201,7 +226,7 @@ int main(int count, char **words)
     ask_again();
     serve();
     printf("3's word is %lu\n", (unsigned long)table.records[3].word);
-    if (admit() != 0 || explain(2) != 0)
+    if (admit("subsystem", &table, members, list) != 0 || explain(2) != 0 || bring_in() != 0)
         return 1;
     return save(words[2]);
 }

@@ -1,6 +1,6 @@
 /*
- * What the header itself gives: reasons, stamping, slots, version, the bytes of requests. Each is held to
- * what the documents say, written out here. Exit status: 0 if all is as it should be, 1 if not.
+ * What the header itself gives: reasons, stamping, slots, version, sizes, the bytes of requests. Each is held
+ * to what the documents say, written out here. Exit status: 0 if all is as it should be, 1 if not.
  */
 #include "captable.h"
 
@@ -17,7 +17,7 @@ static void check(int holds, const char *what)
     }
 }
 
-/* One reason for each of 0 to 19, each other than the rest, and one for all numbers that are no answer. */
+/* One reason for each of 0 to 22, each other than the rest, and one for all numbers that are no answer. */
 static void reasons(void)
 {
     unsigned a, b;
@@ -25,15 +25,16 @@ static void reasons(void)
     for (a = 0; a <= 255; a++) {
         const char *reason = captable_reason((uint8_t)a);
         check(reason != NULL && strlen(reason) > 3, "every number has a reason");
-        if (a > 20)
-            check(strcmp(reason, captable_reason(20)) == 0, "20 and above are no answers");
+        if (a > 23)
+            check(strcmp(reason, captable_reason(23)) == 0, "23 and above are no answers");
     }
-    for (a = 0; a <= 20; a++)
+    for (a = 0; a <= 23; a++)
         for (b = 0; b < a; b++)
             check(strcmp(captable_reason((uint8_t)a), captable_reason((uint8_t)b)) != 0, "reasons differ");
     check(strcmp(captable_reason(0), "done") == 0, "0 is done");
     check(strcmp(captable_reason(17), "the input has a wrong length") == 0, "17 is confine's own");
     check(strcmp(captable_reason(19), "the object is outside the bound") == 0, "19 is the last of a chain");
+    check(strcmp(captable_reason(20), "the import has a wrong length") == 0, "20 is an import's, and not an image's");
 }
 
 /* The numbers of document 01, by name, and from 18 on those of document 02. */
@@ -47,6 +48,8 @@ static void numbers(void)
     check(CAPTABLE_LENGTH_WRONG == 14 && CAPTABLE_VERSION_WRONG == 15, "14 and 15");
     check(CAPTABLE_BUFFER_SHORT == 16 && CAPTABLE_INPUT_WRONG == 17, "16 and 17");
     check(CAPTABLE_OBJECT_INVALID == 18 && CAPTABLE_OUTSIDE_BOUND == 19, "18 and 19");
+    check(CAPTABLE_IMPORT_LENGTH_WRONG == 20 && CAPTABLE_IMPORT_VERSION_WRONG == 21, "20 and 21");
+    check(CAPTABLE_IMPORT_VALUE_WRONG == 22, "22");
 }
 
 /* The stamp is the second byte, of any bytes that have one, and no other byte. */
@@ -100,15 +103,47 @@ static void requests(void)
     check(captable_put_send(out, 5, 0, 1, pairs, 4, CAPTABLE_NO_REPLY) == 17, "a send with four pairs");
 }
 
+/* A head of four bytes, and 64 entities of a count and eight pairs each: the longest import is brought in, its
+ * last capability into the last slot, and with one byte more it is not. */
+static void longest_import(void)
+{
+    static uint8_t bytes[CAPTABLE_IMPORT_BYTES + 1];
+    captable_outcome outcome;
+    captable_capability held;
+    size_t n;
+
+    check(CAPTABLE_IMPORT_BYTES == 4 + 64 * (1 + 8 * 2), "the longest import");
+    bytes[0] = CAPTABLE_IMPORT_BYTES / 256;
+    bytes[1] = CAPTABLE_IMPORT_BYTES % 256;
+    bytes[2] = 1;
+    bytes[3] = CAPTABLE_OBJECTS;
+    for (n = 0; n < CAPTABLE_OBJECTS; n++)
+        bytes[4 + 17 * n] = CAPTABLE_SLOTS;
+    bytes[1090] = 63; /* capability 7 of entity 63, the only one with a right: Grant over 63 */
+    bytes[1091] = 4;
+    outcome = captable_import(bytes, CAPTABLE_IMPORT_BYTES);
+    check(outcome.number == CAPTABLE_DONE && outcome.table.records[63].status == CAPTABLE_ALIVE, "it is brought in");
+    held = captable_slot(&outcome.table, 63, 7);
+    check(held.target == 63 && held.rights == CAPTABLE_TX, "the last capability is in the last slot");
+    held = captable_slot(&outcome.table, 63, 6);
+    check(held.target == 0 && held.rights == 0, "the slot before it is empty");
+    bytes[1] = (CAPTABLE_IMPORT_BYTES + 1) % 256;
+    outcome = captable_import(bytes, CAPTABLE_IMPORT_BYTES + 1);
+    check(outcome.number == CAPTABLE_IMPORT_LENGTH_WRONG && outcome.table.records[63].status == CAPTABLE_UNBORN,
+          "no import is longer");
+    check(captable_slot(&outcome.table, 63, 7).rights == 0, "a refusal leaves no capability");
+}
+
 int main(void)
 {
-    check(CAPTABLE_VERSION == 0 * 65536 + 2 * 256 + 0, "the header's version is 0.2.0");
+    check(CAPTABLE_VERSION == 0 * 65536 + 3 * 256 + 0, "the header's version is 0.3.0");
     check(captable_version() == CAPTABLE_VERSION, "the archive has the header's version");
     reasons();
     numbers();
     stamps();
     slots();
     requests();
+    longest_import();
     if (!wrong)
         printf("the header's own functions do what they say\n");
     return wrong;

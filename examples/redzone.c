@@ -59,19 +59,21 @@ static int keeps_below(int number)
 /* All that the calls answer. Tables are kept as their images, for the padding of a struct is anything. */
 struct answers {
     uint32_t version;
-    uint8_t numbers[10];
+    uint8_t numbers[12];
     uint64_t bound, rows[4 * CAPTABLE_OBJECTS];
     uint8_t chain[CAPTABLE_LINKS];
     uint8_t loaded[CAPTABLE_IMAGE_BYTES], after[CAPTABLE_IMAGE_BYTES], given[CAPTABLE_IMAGE_BYTES];
+    uint8_t imported[CAPTABLE_IMAGE_BYTES];
     uint8_t printed[CAPTABLE_PRINTED];
     size_t count;
 };
 
 /* Makes every call. The allocate is document 01's example 6 and the test its example 1; of that test's bound
- * the chain is to object 2. */
+ * the chain is to object 2. The import has an entity with Store over another, and one with Create. */
 static void ask(const uint8_t *input, size_t length, struct answers *out)
 {
     static const uint8_t list[2] = {1, CAPTABLE_WR};
+    static const uint8_t older[13] = {0, 13, 1, 3, 1, 1, 16, 0, 2, 0, 8, 1, 31};
     uint8_t request[CAPTABLE_REQUEST_BYTES];
     size_t size = captable_put_allocate(request, 5, 10, CAPTABLE_ACTIVE, (uint64_t)1 << 11, 7, NULL, 0);
     captable_outcome loaded = captable_read(input, CAPTABLE_IMAGE_BYTES);
@@ -80,6 +82,7 @@ static void ask(const uint8_t *input, size_t length, struct answers *out)
     captable_relation relation = captable_access(loaded.table);
     captable_finding finding = captable_test(loaded.table, (uint64_t)1 << 5, list, sizeof list);
     captable_shown shown = captable_chain(loaded.table, (uint64_t)1 << 5, list, sizeof list, 2);
+    captable_outcome imported = captable_import(older, sizeof older);
 
     out->version = captable_version();
     out->count = captable_confine(input, length, out->printed);
@@ -96,6 +99,8 @@ static void ask(const uint8_t *input, size_t length, struct answers *out)
     out->numbers[7] = captable_write(given.table, out->given, sizeof out->given);
     out->numbers[8] = captable_write(after, out->after, sizeof out->after);
     out->numbers[9] = shown.number;
+    out->numbers[10] = imported.number;
+    out->numbers[11] = captable_write(imported.table, out->imported, sizeof out->imported);
 }
 
 /* Was every call done, and not merely refused twice? */

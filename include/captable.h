@@ -2,7 +2,7 @@
  * captable.h: the proved capability table for firmware in C and C++.
  *
  * The table is one fixed table of 64 objects with eight capabilities each. Its rules are document 01's,
- * with request 2.1 of document 02, and every answer is a number of theirs: 0 for done, or why not
+ * with requests 2.1 and 2.2 of document 02, and every answer is a number of theirs: 0 for done, or why not
  * (enum captable_number).
  *
  * Link with libcaptable.a, which `rt staticlib captable` proves and writes. It needs memcpy and memset
@@ -68,20 +68,21 @@ extern "C" {
 
 /* ---- version -------------------------------------------------------------------------------------- */
 
-/* The version of the calls, 0.2.0: the first number times 65,536, the second times 256, and the third.
+/* The version of the calls, 0.3.0: the first number times 65,536, the second times 256, and the third.
  * captable_version gives that of the archive. Compare the two at start. */
-#define CAPTABLE_VERSION 512
+#define CAPTABLE_VERSION 768
 
 /* ---- sizes ---------------------------------------------------------------------------------------- */
 
-#define CAPTABLE_OBJECTS 64       /* objects of a table, numbered from 0 */
-#define CAPTABLE_SLOTS 8          /* slots of an object, numbered from 0 */
-#define CAPTABLE_IMAGE_BYTES 1923 /* the length of an image */
-#define CAPTABLE_REQUEST_BYTES 22 /* the longest request: an allocate with four pairs */
-#define CAPTABLE_PAIRS 4          /* the most pairs in the list of a send or an allocate */
-#define CAPTABLE_ENTRIES 8        /* the most entries in the list of a test */
-#define CAPTABLE_LINKS 63         /* the most links of a chain, and so the most numbers in it */
-#define CAPTABLE_PRINTED 256      /* the buffer of captable_confine */
+#define CAPTABLE_OBJECTS 64        /* objects of a table, numbered from 0 */
+#define CAPTABLE_SLOTS 8           /* slots of an object, numbered from 0 */
+#define CAPTABLE_IMAGE_BYTES 1923  /* the length of an image */
+#define CAPTABLE_IMPORT_BYTES 1092 /* the longest import: 64 entities with eight capabilities each */
+#define CAPTABLE_REQUEST_BYTES 22  /* the longest request: an allocate with four pairs */
+#define CAPTABLE_PAIRS 4           /* the most pairs in the list of a send or an allocate */
+#define CAPTABLE_ENTRIES 8         /* the most entries in the list of a test */
+#define CAPTABLE_LINKS 63          /* the most links of a chain, and so the most numbers in it */
+#define CAPTABLE_PRINTED 256       /* the buffer of captable_confine */
 
 /* ---- stack ---------------------------------------------------------------------------------------- */
 
@@ -107,6 +108,7 @@ extern "C" {
 #define CAPTABLE_STACK_TEST 12456
 #define CAPTABLE_STACK_CHAIN 14632
 #define CAPTABLE_STACK_READ 11448
+#define CAPTABLE_STACK_IMPORT 7240
 #define CAPTABLE_STACK_WRITE 6264
 #define CAPTABLE_STACK_CONFINE 12536
 #define CAPTABLE_STACK_VERSION 8
@@ -139,29 +141,32 @@ enum captable_code {
 #define CAPTABLE_NO_REPLY 8
 
 /* Every answer of every call, and of the program `confine`. Checks run in number order, among those that
- * apply; whoever asks for a chain asks for a test first, and gets its refusals. captable_reason says each in
- * words. */
+ * apply; whoever asks for a chain asks for a test first, and gets its refusals; the bytes of an import are
+ * checked as they come. captable_reason says each in words. */
 enum captable_number {
     CAPTABLE_DONE = 0,
-    CAPTABLE_TABLE_UNSOUND = 1,    /* the table is not sound */
-    CAPTABLE_FIELD_INVALID = 2,    /* a field out of range, a list too long, or bytes that are no request */
-    CAPTABLE_ACTOR_UNFIT = 3,      /* the actor is not alive, or passive */
-    CAPTABLE_SLOT_EMPTY = 4,       /* the slot that is used is empty */
-    CAPTABLE_TARGET_DEAD = 5,      /* the target is dead */
-    CAPTABLE_RIGHT_ABSENT = 6,     /* the slot lacks the right that is needed */
-    CAPTABLE_TARGET_PASSIVE = 7,   /* a send to a passive target */
-    CAPTABLE_ACTOR_ITSELF = 8,     /* a destroy of the actor itself */
-    CAPTABLE_NOT_IN_STOCK = 9,     /* the number or the part of an allocate is outside the actor's stock */
-    CAPTABLE_MEMBERS_INVALID = 10, /* test: no member, or one that is not alive */
-    CAPTABLE_LIST_INVALID = 11,    /* test: a list too long, no list, or an entry that is no right over a born non-member */
-    CAPTABLE_RIGHT_UNLISTED = 12,  /* test: a member holds a right over a non-member that is not listed */
-    CAPTABLE_MEMBER_HELD = 13,     /* test: a non-member holds a capability naming a member */
-    CAPTABLE_LENGTH_WRONG = 14,    /* reading: not 1,923 bytes, or the length field says otherwise */
-    CAPTABLE_VERSION_WRONG = 15,   /* reading: the version byte is not 1 */
-    CAPTABLE_BUFFER_SHORT = 16,    /* writing: a buffer below 1,923 bytes */
-    CAPTABLE_INPUT_WRONG = 17,     /* confine: an input of wrong length; captable_confine prints it */
-    CAPTABLE_OBJECT_INVALID = 18,  /* chain: the object's number is above 63, unborn or a member */
-    CAPTABLE_OUTSIDE_BOUND = 19    /* chain: the object is outside the bound */
+    CAPTABLE_TABLE_UNSOUND = 1,         /* the table is not sound */
+    CAPTABLE_FIELD_INVALID = 2,         /* a field out of range, a list too long, or bytes that are no request */
+    CAPTABLE_ACTOR_UNFIT = 3,           /* the actor is not alive, or passive */
+    CAPTABLE_SLOT_EMPTY = 4,            /* the slot that is used is empty */
+    CAPTABLE_TARGET_DEAD = 5,           /* the target is dead */
+    CAPTABLE_RIGHT_ABSENT = 6,          /* the slot lacks the right that is needed */
+    CAPTABLE_TARGET_PASSIVE = 7,        /* a send to a passive target */
+    CAPTABLE_ACTOR_ITSELF = 8,          /* a destroy of the actor itself */
+    CAPTABLE_NOT_IN_STOCK = 9,          /* the number or the part of an allocate is outside the actor's stock */
+    CAPTABLE_MEMBERS_INVALID = 10,      /* test: no member, or one that is not alive */
+    CAPTABLE_LIST_INVALID = 11,         /* test: a list too long, no list, or an entry that is no right over a born non-member */
+    CAPTABLE_RIGHT_UNLISTED = 12,       /* test: a member holds a right over a non-member that is not listed */
+    CAPTABLE_MEMBER_HELD = 13,          /* test: a non-member holds a capability naming a member */
+    CAPTABLE_LENGTH_WRONG = 14,         /* reading: not 1,923 bytes, or the length field says otherwise */
+    CAPTABLE_VERSION_WRONG = 15,        /* reading: the version byte is not 1 */
+    CAPTABLE_BUFFER_SHORT = 16,         /* writing: a buffer below 1,923 bytes */
+    CAPTABLE_INPUT_WRONG = 17,          /* confine: an input of wrong length; captable_confine prints it */
+    CAPTABLE_OBJECT_INVALID = 18,       /* chain: the object's number is above 63, unborn or a member */
+    CAPTABLE_OUTSIDE_BOUND = 19,        /* chain: the object is outside the bound */
+    CAPTABLE_IMPORT_LENGTH_WRONG = 20,  /* import: below 4 bytes, another length field, or entities that end elsewhere */
+    CAPTABLE_IMPORT_VERSION_WRONG = 21, /* import: the version byte is not 1 */
+    CAPTABLE_IMPORT_VALUE_WRONG = 22    /* import: a count, a target or rights out of range */
 };
 
 /* Why a call was answered with the number, in plain words for a log. Never NULL. */
@@ -208,6 +213,12 @@ static inline const char *captable_reason(uint8_t number)
         return "the object is above 63, unborn or a member";
     case CAPTABLE_OUTSIDE_BOUND:
         return "the object is outside the bound";
+    case CAPTABLE_IMPORT_LENGTH_WRONG:
+        return "the import has a wrong length";
+    case CAPTABLE_IMPORT_VERSION_WRONG:
+        return "the import has a wrong version";
+    case CAPTABLE_IMPORT_VALUE_WRONG:
+        return "a count, a target or rights in the import are out of range";
     default:
         return "no answer of the table has this number";
     }
@@ -356,6 +367,30 @@ CAPTABLE_ANSWER captable_shown captable_chain(captable_table table, uint64_t mem
 
 /* Reads an image; on every refusal with the wholly unborn table. */
 CAPTABLE_ANSWER captable_outcome captable_read(const uint8_t *image, size_t length);
+
+/*
+ * Brings in a take-and-grant table, such as the older rigs hold (source document 001): entities, and the
+ * capabilities that they have over one another.
+ *
+ * The bytes are their own length in 2 bytes, the most significant first; the version byte 1; how many entities
+ * there are, 0 to 64; and the entities. An entity is how many capabilities it has, 0 to 8, and for each of them
+ * the target and the rights, which add up: 1 Read, 2 Write, 4 Grant, 8 Create, 16 Store. The longest import has
+ * CAPTABLE_IMPORT_BYTES bytes.
+ *
+ * Entities are numbered from 0 as they come, and each becomes the object of its number: alive, active, with word
+ * 0 and no stock. Its capabilities go into its slots in their order. Read becomes rd, Write wr, Grant tx, Store
+ * rd and wr together, Create nothing; a capability that is left with no right gives an empty slot in its place.
+ * All other numbers are unborn, and since they are in no stock, no object can be made in this table. What comes
+ * in is sound, and captable_test therefore judges it like any table. Entities that Store links join influence
+ * each other in it.
+ *
+ * The number is 20 for fewer than four bytes and for a length field that is not `length`, then 21 for a version
+ * byte that is not 1, then 22 for more than 64 entities. Then the entities are gone through byte by byte, and
+ * the first offence decides: 22 for more than eight capabilities, a target that is no entity's number or rights
+ * above 31, 20 where the bytes end before the entities do, or go on after them. On every refusal the table is
+ * the wholly unborn one. So the table that is given back is always sound; the bytes are as they were.
+ */
+CAPTABLE_ANSWER captable_outcome captable_import(const uint8_t *bytes, size_t length);
 
 /* Writes the table's image into the first 1,923 bytes of the buffer and touches no byte after them. A
  * refusal leaves every byte. */

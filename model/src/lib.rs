@@ -23,6 +23,7 @@
 //! | request | file |
 //! |---|---|
 //! | 2.1 Show me the chain | `chain`: checks, links, the shortest chain that comes first |
+//! | 2.2 Bring in take-and-grant tables | `take_grant`: checks, the walk over the entities, what rights become |
 //!
 //! Beside these, `links` leads to the bound a second way, as the proved code has it too: what can be
 //! reached from the holder of the list, link by link. Of requests and lists as bytes document 01 says no
@@ -52,3 +53,4 @@ pub mod confine;
 
 // In the order of document 02.
 pub mod chain;
+pub mod take_grant;

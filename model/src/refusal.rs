@@ -1,6 +1,6 @@
-//! The causes for which a request, a test, an image, an input or the question for a chain is turned
-//! down. Each has the number of document 01, from 18 on that of document 02; the number 0 stands for
-//! done or accepted.
+//! The causes for which a request, a test, an image, an input, the question for a chain or an import is
+//! turned down. Each has the number of document 01, from 18 on that of document 02; the number 0 stands
+//! for done or accepted.
 
 /// A cause of refusal. The discriminant is the number that is given to the caller.
 #[derive(Clone, Copy, Debug, PartialEq, Eq)]
@@ -25,6 +25,9 @@ pub enum Refusal {
     InputLength = 17,
     ObjectNotBornNonMember = 18,
     ObjectOutsideBound = 19,
+    ImportLength = 20,
+    ImportVersion = 21,
+    ImportValue = 22,
 }
 
 impl Refusal {

@@ -1,4 +1,5 @@
-//! The test vectors in `vectors/`: steps, potential access, tests, inputs of `confine` and chains.
+//! The test vectors in `vectors/`: steps, potential access, tests, inputs of `confine`, chains and
+//! imports.
 //! Every line of every file is compared in full.
 
 mod json;
@@ -14,6 +15,7 @@ use yavrinks_model::confinement::confinement_test;
 use yavrinks_model::set;
 use yavrinks_model::step::{step, step_in_place, Code, Fields, Request};
 use yavrinks_model::table::{Capability, Record, Table};
+use yavrinks_model::take_grant::import;
 
 fn vectors() -> PathBuf {
     PathBuf::from(env!("CARGO_MANIFEST_DIR")).join("vectors")
@@ -46,6 +48,15 @@ fn byte_or_zero(value: &Json, key: &str) -> u8 {
 
 fn bytes(value: &Json) -> Vec<u8> {
     value.as_list().expect("list").iter().map(byte).collect()
+}
+
+/// Bytes that are written as hexadecimal digits.
+fn hexadecimal(value: &Json) -> Vec<u8> {
+    let digits = value.as_text().expect("digits");
+    (0..digits.len())
+        .step_by(2)
+        .map(|at| u8::from_str_radix(&digits[at..at + 2], 16).expect("byte"))
+        .collect()
 }
 
 fn number_set(value: &Json) -> u64 {
@@ -198,6 +209,17 @@ fn chains() {
             byte(field(value, "object")),
         );
         let expected = (byte(field(value, "number")), bytes(field(value, "chain")));
+        assert_eq!(outcome, expected, "line {}", line + 1);
+    }
+}
+
+#[test]
+fn imports() {
+    let lines = lines("2.2/imports.jsonl");
+    assert_eq!(lines.len(), 160);
+    for (line, value) in lines.iter().enumerate() {
+        let outcome = import(&hexadecimal(field(value, "bytes")));
+        let expected = (byte(field(value, "number")), table(field(value, "table")));
         assert_eq!(outcome, expected, "line {}", line + 1);
     }
 }

@@ -3,22 +3,20 @@
 use mathlib.Core.Path.{_≡_, refl, sym, _∙_, ap, subst, subst⁻¹}
 use mathlib.Core.Bool.{Bool, true, false, not, _&&_}
 use mathlib.Core.List.{List}
-use Prim.Native.Nat.{ℕ, _+_, _*_, _/_, _%_, _^_, _<_}
-use native.Mathlib.Omega.{arith}
-use lib.Dec.{ltb, eqb}
+use Prim.Native.Nat.{ℕ, _/_, _%_, _^_, _<_}
+use lib.Dec.{ltb}
 use lib.ListN.{replicate}
-use borrow.Author.Tests.{ltb-true, lt-ltb, eqb-true, eq-eqb, not-true}
+use borrow.Author.Tests.{ltb-true, lt-ltb, not-true}
 use Rattle.mask.specs.Sets.{has}
 use Rattle.mask.proofs.Tests.{and-true, and-intro}
-use Rattle.mask.proofs.Below.{any-intro, any-elim}
 use Rattle.mask.proofs.Bits.{has-bits, bits-lt, has-zero}
 use Rattle.table.specs.declared.Record.{Record}
 use Rattle.table.specs.declared.Table.{Table}
 use Rattle.table.specs.Lists.{tabulate}
-use Rattle.table.specs.Cells.{slotOf, slotAt, bornAt}
+use Rattle.table.specs.Cells.{bornAt}
 use Rattle.table.specs.Soundness.{sound}
 use Rattle.access.specs.declared.AccessReply.the-variants.{Done, TableUnsound}
-use Rattle.relation.specs.Relation.{Right, bitAt, holds, takesPart, holdsIn, tableHolding, rightAt}
+use Rattle.relation.specs.Relation.{holds, takesPart, tableHolding, rightAt}
 use Rattle.relation.specs.Closure.{rowOf}
 use Rattle.access.specs.Answers.{bornOutside, accessOf}
 use Rattle.relation.specs.Helpers.{wordAt, Saturated}
@@ -27,6 +25,7 @@ use Rattle.relation.proofs.Exact.{table-low}
 use Rattle.relation.proofs.Saturation.{Base, base-kept, exact-words}
 use Rattle.access.proofs.Marks.{has-low}
 use Rattle.access.proofs.StartWords.{Grounded, Begun, begun}
+use Rattle.relation.proofs.Tables.{slot-held, held-slot}
 
 -- born numbers outside a set -------------------------------------------------------
 pub outside-lt : (records : List Record) (set : ℕ) → bornOutside records set < 2 ^ 64
@@ -45,21 +44,6 @@ unfolding bornOutside takesPart
 outside-intro t set n e o =
     let p = and-true (ltb n 64) (bornAt t n) e in
     has-bits 64 n (λ k. bornAt t k && not (has k set)) (ltb-true n 64 (p .0)) ∙ and-intro (bornAt t n) (not (has n set)) (p .1) (ap not o)
-
--- a right in a slot is held, and a held right is in a slot -----------------------------
-pub slot-held : (t : Table) (b : Right) (k : ℕ) → has (bitAt b) (slotOf (t .slots) k .rights) ≡ true → holdsIn t b (k / 8) (slotOf (t .slots) k .target) ≡ true
-unfolding holdsIn
-slot-held t b k e =
-    let at : k / 8 * 8 + k % 8 ≡ k = omega arith in
-    any-intro 8 _ (k % 8) (omega arith) (subst⁻¹ (λ (i : ℕ). (eqb (slotOf (t .slots) i .target) (slotOf (t .slots) k .target) && has (bitAt b) (slotOf (t .slots) i .rights)) ≡ true) at
-    (and-intro _ _ (eq-eqb (slotOf (t .slots) k .target) (slotOf (t .slots) k .target) refl) e))
-
-pub held-slot : {P : Type 0} (t : Table) (b : Right) (x y : ℕ) → holdsIn t b x y ≡ true → x < 64
-    → ((k : ℕ) → k < 512 → k / 8 ≡ x → slotOf (t .slots) k .target ≡ y → has (bitAt b) (slotOf (t .slots) k .rights) ≡ true → P) → P
-unfolding holdsIn
-held-slot t b x y e hx f = any-elim 8 _ e (λ j hj q.
-    let p = and-true (eqb (slotAt t x j .target) y) _ q in
-    f (x * 8 + j) (omega arith) (omega arith) (eqb-true (slotAt t x j .target) y (p .0)) (p .1))
 
 -- the table's words --------------------------------------------------------------------
 module _ (t : Table) (s r : List ℕ) (start : Begun (t .slots) (bornOutside (t .records) 0) (bornOutside (t .records) 0) s) (k : Saturated s r) where

@@ -26,7 +26,8 @@ use Rattle.relation.proofs.Reach.{turn}
 use Rattle.relation.proofs.Exact.{means, links-can, influenced-links}
 use Rattle.relation.proofs.Saturation.{Base, base-kept, complete}
 use Rattle.access.proofs.StartWords.{Grounded, Begun, begun, Entered, entered}
-use Rattle.access.proofs.TableWords.{outside-lt, outside-facts, outside-intro, slot-held, held-slot}
+use Rattle.access.proofs.TableWords.{outside-lt, outside-facts, outside-intro}
+use Rattle.relation.proofs.Tables.{slot-held, held-slot}
 use Rattle.bounds.specs.declared.EntryList.{EntryList}
 use Rattle.bounds.specs.StandIn.{entriesOf, entryAt, listed, lowestFrom, standIn, testNode, testHeld, testHolding, boundOf}
 use Rattle.bounds.specs.Helpers.{readOff}

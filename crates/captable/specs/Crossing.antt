@@ -13,14 +13,16 @@ use Rattle.chains.specs.declared.Shown.{Shown}
 use Rattle.chains.specs.Answers.{chainNumber}
 use Rattle.image.specs.declared.Loaded.{Loaded}
 use Rattle.image.specs.Images.{readNumber}
+use Rattle.take_grant.specs.declared.Imported.{Imported}
+use Rattle.take_grant.specs.Imports.{importNumber}
 use Rattle.captable.specs.declared.Outcome.{Outcome}
 use Rattle.captable.specs.declared.Relation.{Relation}
 use Rattle.captable.specs.declared.Finding.{Finding}
 use Rattle.captable.specs.declared.ShownChain.{ShownChain}
 
--- the version of the calls, 0.2.0: the first number times 65,536, the second times 256, the third
+-- the version of the calls, 0.3.0: the first number times 65,536, the second times 256, the third
 abbrev pub version : ℕ
-version = 512
+version = 768
 
 abbrev pub soundNumber : Table → ℕ
 soundNumber t = cond (sound t) 0 1
@@ -39,3 +41,6 @@ chained s = record { numbers = s .numbers; count = s .count; number = chainNumbe
 
 abbrev pub loaded : Loaded → Outcome
 loaded l = record { table = l .table; number = readNumber (l .reply) }
+
+abbrev pub broughtIn : Imported → Outcome
+broughtIn i = record { table = i .table; number = importNumber (i .reply) }

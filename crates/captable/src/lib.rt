@@ -12,13 +12,14 @@ ghost use Rattle.access.specs.Answers.{accessOf};
 ghost use Rattle.confinement.specs.Tests.{testOf};
 ghost use Rattle.chains.specs.Answers.{chainOf};
 ghost use Rattle.image.specs.Images.{readOf};
+ghost use Rattle.take_grant.specs.Imports.{importOf};
 ghost use Rattle.image_out.specs.Written.{writeNumber, writeRefusal, writtenOf};
 ghost use Rattle.report.specs.Printed.{printedOf};
 ghost use Rattle.wire.specs.Wires.{askFrom};
 ghost use Rattle.entries.specs.Entries.{entriesIn};
-ghost use Rattle.captable.specs.Crossing.{version, soundNumber, stepped, related, found, chained, loaded};
+ghost use Rattle.captable.specs.Crossing.{version, soundNumber, stepped, related, found, chained, loaded, broughtIn};
 
-// A table that a step or a reading of an image gives, and its number. The table stands first, so that no copy of it has to be moved.
+// A table that a step, a reading of an image or an import gives, and its number. The table stands first, so that no copy of it has to be moved.
 #[repr(C)]
 pub struct Outcome {
     pub table: Table,
@@ -53,7 +54,7 @@ pub struct ShownChain {
 pub extern "C" fn captable_version() -> u32
     ensures { λ r. ⌜ r ≡ version ⌝ }
 {
-    512
+    768
 }
 
 // 0 for a sound table, 1 for any other.
@@ -166,6 +167,21 @@ pub extern "C" fn captable_read(image: &[u8]) -> Outcome
     let reply = l.reply;
     let table = l.table;
     let number = numbers::of_read(reply);
+    Outcome {
+        table: table,
+        number: number,
+    }
+}
+
+// Brings in a table of the older rigs, document 02, 2.2; on every refusal with the wholly unborn table.
+#[no_mangle]
+pub extern "C" fn captable_import(bytes: &[u8]) -> Outcome
+    ensures { λ r. ⌜ r ≡ broughtIn (importOf (now (bytes .entry))) ⌝ }
+{
+    let i = take_grant::import(bytes);
+    let reply = i.reply;
+    let number = answers::of_import(reply);
+    let table = i.table;
     Outcome {
         table: table,
         number: number,

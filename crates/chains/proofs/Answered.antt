@@ -16,7 +16,7 @@ use Rattle.table.proofs.Lists.{padded-all}
 use Rattle.table.proofs.SoundFacts.{Sound}
 use Rattle.relation.specs.Relation.{takesPart}
 use Rattle.bounds.specs.StandIn.{standIn, boundOf}
-use Rattle.confinement.proofs.Held.{part-low, takes-part}
+use Rattle.relation.proofs.Tables.{part-low, takes-part}
 use Rattle.confinement.specs.Refusals.{verdictNumber, verdictOf}
 use Rattle.confinement.specs.Tests.{isAccepted}
 use Rattle.chains.specs.declared.ChainReply.{ChainReply}

@@ -1,38 +1,27 @@
 -- What the holding of an accepted test has: who takes part, and of each capability that a non-member's slot or an entry has, that both
 -- ends take part and that it is held. Assumes nothing.
-use mathlib.Core.Path.{_≡_, refl, ap}
+use mathlib.Core.Path.{_≡_, refl}
 use mathlib.Core.Bool.{true, false}
 use mathlib.Core.List.{List}
 use Prim.Native.Nat.{ℕ, _≤_, _<_}
 use native.Mathlib.Omega.{arith}
 use lib.Dec.{ltb, eqb}
 use lib.ListN.{length}
-use borrow.Author.Tests.{ltb-true, ltb-false, lt-ltb, eqb-true, eq-eqb}
+use borrow.Author.Tests.{lt-ltb, eqb-true, eq-eqb}
 use Rattle.mask.specs.Sets.{has}
 use Rattle.mask.proofs.Tests.{byCases, byEq, clash, and-true, and-intro}
 use Rattle.mask.proofs.Below.{any-intro}
 use Rattle.mask.proofs.Bits.{has-zero}
 use Rattle.table.specs.declared.Capability.{Capability}
-use Rattle.table.specs.declared.Record.{Record}
 use Rattle.table.specs.declared.Table.{Table}
-use Rattle.table.specs.Cells.{recordAt, slotAt, statusAt, bornAt, isEmpty}
-use Rattle.table.proofs.Cells.{record-high}
-use Rattle.table.proofs.SoundFacts.{Sound, born-pos, pos-born}
+use Rattle.table.specs.Cells.{slotAt, isEmpty}
+use Rattle.table.proofs.SoundFacts.{Sound}
 use Rattle.relation.specs.Relation.{Right, bitAt, takesPart, holdsIn}
 use Rattle.bounds.specs.StandIn.{entryAt, listed, standIn, testNode, testHeld}
 use Rattle.confinement.proofs.TestFacts.{Facts}
+use Rattle.relation.proofs.Tables.{part-low, takes-part}
 
 -- who takes part -----------------------------------------------------------------------
-pub part-low : (t : Table) (n : ℕ) → takesPart t n ≡ true → (n < 64) × (1 ≤ statusAt t n)
-unfolding takesPart
-part-low t n e = let p = and-true (ltb n 64) (bornAt t n) e in (ltb-true n 64 (p .0), born-pos (recordAt t n) (p .1))
-
-pub takes-part : (t : Table) → Sound t → (n : ℕ) → 1 ≤ statusAt t n → takesPart t n ≡ true
-unfolding takesPart
-takes-part t d n h = and-intro (ltb n 64) (bornAt t n)
-    (byCases (ltb n 64) (λ e. e) (λ e. absurd (omega (arith, ap (λ (r : Record). r .status) (record-high t n (d .size) (ltb-false n 64 e))))))
-    (pos-born (recordAt t n) (d .records n .low) h)
-
 pub node-out : (t : Table) (members n : ℕ) → takesPart t n ≡ true → has n members ≡ false → testNode t members n ≡ true
 unfolding testNode
 node-out t members n h o = rw (o, testNode) h

@@ -1,8 +1,11 @@
--- The six ways out of the test: what the checks found, as the verdict of the definition. Assumes nothing.
+-- The six ways out of the test: what the checks found, as the verdict of the definition; and that a sound table never gets 1. Assumes nothing.
 use mathlib.Core.Path.{_≡_, refl, sym, _∙_, ap}
 use mathlib.Core.Bool.{Bool, true, false}
 use mathlib.Core.List.{List}
+use mathlib.Core.Logic.{_≢_}
 use Prim.Native.Nat.{ℕ, _<_}
+use native.Mathlib.Omega.{arith}
+use Rattle.mask.proofs.Tests.{byCases}
 use Rattle.table.specs.declared.Capability.{Capability}
 use Rattle.table.specs.declared.Table.{Table}
 use Rattle.table.specs.Soundness.{sound}
@@ -10,7 +13,7 @@ use Rattle.access.specs.Answers.{bornOutside}
 use Rattle.confinement.specs.declared.Verdict.{Verdict}
 use Rattle.confinement.specs.declared.Verdict.the-variants.{Accepted, TableUnsound, MembersInvalid, ListInvalid, RightUnlisted, MemberHeld}
 use Rattle.bounds.specs.StandIn.{standIn, boundOf}
-use Rattle.confinement.specs.Refusals.{badMembers, badList, badHeld, memberHeld, verdictOf}
+use Rattle.confinement.specs.Refusals.{verdictNumber, refuse, badMembers, badList, badHeld, memberHeld, verdictOf}
 use Rattle.confinement.specs.Tests.{isAccepted, refusedTest, testOf}
 use Rattle.confinement.specs.Helpers.{listRefused}
 use Rattle.confinement.proofs.Scans.{list-same}
@@ -71,3 +74,20 @@ module _ (t : Table) (members : ℕ) (list : List Capability) where
             test-0 e found g =
                 (λ i. record { verdict = Accepted; bound = g i })
                 ∙ accepted (let f : memberHeld t members ≡ false = sym s13 ∙ e in rw (f1, f10, f11 false e11, f12, f) refl)
+
+-- a sound table is never answered 1
+refuse-not : (cause : Bool) (why rest : Verdict) → verdictNumber why ≢ 1 → verdictNumber rest ≢ 1 → verdictNumber (refuse cause why rest) ≢ 1
+refuse-not true why rest p q = p
+refuse-not false why rest p q = q
+
+module _ (t : Table) (e : sound t ≡ true) (members : ℕ) (list : List Capability) where
+  pub verdict-never-one : verdictNumber (verdictOf t members list) ≢ 1
+  unfolding verdictOf
+  verdict-never-one = rw e (
+      refuse-not (badMembers t members) MembersInvalid _ (λ z. omega arith)
+      (refuse-not (badList t members list) ListInvalid _ (λ z. omega arith)
+      (refuse-not (badHeld t members list) RightUnlisted _ (λ z. omega arith) (refuse-not (memberHeld t members) MemberHeld Accepted (λ z. omega arith) (λ z. omega arith)))))
+
+  pub test-never-one : verdictNumber (testOf t members list .verdict) ≢ 1
+  unfolding testOf
+  test-never-one = byCases (isAccepted (verdictOf t members list)) (λ a. rw (a, testOf) (λ z. omega arith)) (λ a. rw (a, testOf) verdict-never-one)

@@ -16,6 +16,7 @@ use Rattle.image.specs.Layout.{Version, one, recordLength, placeOf, part
 use Rattle.octets.proofs.BigEndian.{number-from, number-append, number-lt}
 use Rattle.octets.proofs.Parts.{bytes-take, bytes-drop}
 use Rattle.table.proofs.Lists.{getD-tabulate}
+use Rattle.table.proofs.Cells.{tables-same}
 use Rattle.octets.proofs.Lists.{filled-none, filled-more, filled-all}
 use Rattle.image.proofs.Fields.{take-two}
 
@@ -98,5 +99,5 @@ module _ (v : Version) (bytes : List ℕ) where
 
   pub read-all : (t : Table) (n k : ℕ) → n ≡ 64 → k ≡ 512 → ReadTo v bytes t n k → t ≡ tableFrom v bytes
   unfolding tableFrom
-  read-all t n k e f r = ap₂ (λ (x : List Record) (y : List Capability). record { records = x; slots = y })
+  read-all t n k e f r = tables-same
       (filled-all n 64 (recordOf v bytes) (t .records) (r .long) e (r .records)) (filled-all k 512 (slotOf v bytes) (t .slots) (r .wide) f (r .slots))

@@ -25,6 +25,7 @@ use Rattle.image.specs.Images.{readNumber, refusalAs, readRefusal, readOf}
 use Rattle.image_out.specs.Written.{writtenOf}
 use Rattle.octets.specs.BigEndian.{Bytes}
 use Rattle.table.proofs.Lists.{length-tabulate, getD-tabulate}
+use Rattle.table.proofs.Cells.{tables-same}
 use Rattle.octets.proofs.Lists.{tabulate-is}
 use Rattle.image.proofs.Load.{slot-place}
 use Rattle.image.proofs.Replies.{Accepted, accepted, read-done}
@@ -37,7 +38,7 @@ use Rattle.image.proofs.Places.{says-image, versed-image, head-read, length-ima
 module _ (v : Version) (t : Table) (z : IsTable t) where
   pub table-image : tableFrom v (imageOf v t) ≡ t
   unfolding tableFrom storedAt
-  table-image = ap₂ (λ (r : List Record) (s : List Capability). record { records = r; slots = s })
+  table-image = tables-same
       (tabulate-is 64 _ unbornRecord (t .records) (z .records)
       (λ n h. ap (recordFrom v) (part-image v t n h) ∙ record-stored v (storedAt t n) (z .words n) (z .stocks n)))
       (tabulate-is 512 _ emptySlot (t .slots) (z .slots)

@@ -16,7 +16,8 @@ use Rattle.table.specs.declared.Table.{Table}
 use Rattle.relation.specs.Relation.{Right, Holding, takesPart, holdsIn, tableHolding}
 use Rattle.relation.specs.Closure.{bothTakePart, holdsStrong, link}
 use Rattle.access.specs.Answers.{bornOutside}
-use Rattle.access.proofs.TableWords.{outside-facts, outside-intro, slot-held, held-slot}
+use Rattle.access.proofs.TableWords.{outside-facts, outside-intro}
+use Rattle.relation.proofs.Tables.{slot-held, held-slot}
 use Rattle.links.specs.Links.{linkWords, slotHeld, slotHolding, entryHeld, withHolder, capabilityLink, joined, entryLink}
 use Rattle.links.proofs.Edges.{words-same, links-are-edges}
 use Rattle.links.proofs.Unions.{linkHeld, Among, link-held, part-once, held-or, rowHeld, row-intro, row-elim, row-link}

@@ -2,6 +2,7 @@
 // line that is printed for it.
 
 pub mod images; // images.rt: images read, and tables written
+pub mod imports; // imports.rt: tables of the older rigs brought in
 pub mod linked; // linked.rt: links
 pub mod output; // output.rt: the words and numbers of a line
 pub mod relations; // relations.rt: potential access

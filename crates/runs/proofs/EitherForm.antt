@@ -1,7 +1,7 @@
 -- Demand 3 for the calls that the firmware links, `either-form`: two runs whose steps are taken now by value, now on the lent table, from
--- tables that were lent or read from images. A run of the calls ends with the table of the definition's run and gave the numbers of its
+-- tables that were lent, read from images or brought in. A run of the calls ends with the table of the definition's run and gave the numbers of its
 -- replies, so the two-run theorem covers it: the clean objects, their records and slots in the tables that are there at the end, and the
--- numbers that came back. That each is a table comes from owning it or from the image's bytes. Assumes nothing.
+-- numbers that came back. That each is a table comes from owning it, from the image's bytes, or from what an import makes. Assumes nothing.
 use mathlib.Core.Path.{_≡_, refl, sym, _∙_, ap, ap₂}
 use mathlib.Core.List.{List, [], _∷_}
 use Prim.Native.Nat.{ℕ}
@@ -20,17 +20,19 @@ use Rattle.bounds.specs.StandIn.{boundOf}
 use Rattle.confinement.specs.Refusals.{verdictOf, verdictNumber}
 use Rattle.confinement.specs.Tests.{isAccepted, testOf}
 use Rattle.image.proofs.Typed.{read-is-table}
+use Rattle.take_grant.proofs.Claims.{import-is-table}
 use Rattle.entries.specs.Entries.{entriesIn}
 use Rattle.isolation.specs.Clean.{Clean, cleanAtStart, cleanAfter, cleanReplies}
 use Rattle.isolation.specs.Demand.{BothAccepted, TwoRuns}
 use Rattle.isolation.proofs.TwoRuns.{two-runs}
 use Rattle.captable.specs.declared.Outcome.{Outcome}
-use Rattle.runs.specs.Runs.{Had, owned, read, Taken, none, by-value, lent, asksOf, cleanNumbers, BothTested, TwoRunsTaken}
+use Rattle.runs.specs.Runs.{Had, owned, read, imported, Taken, none, by-value, lent, asksOf, cleanNumbers, BothTested, TwoRunsTaken}
 
 -- a table that the firmware has is one --------------------------------------------------
 pub had-table : {t : Table} → Had t → IsTable t
 had-table {t} (owned vs is) = value-is-table t vs is
 had-table (read image b e) = rw e (read-is-table image b)
+had-table (imported bytes e) = rw e (import-is-table bytes)
 
 -- an accepted test ----------------------------------------------------------------------------
 module _ (t : Table) (members : ℕ) (list : List Capability) where

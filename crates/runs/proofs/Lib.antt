@@ -1,1 +1,2 @@
 pub mod EitherForm
+pub mod Usable

@@ -1,4 +1,4 @@
--- Document 01, "Two runs", for what the firmware does: tables that it was lent or read from images, requests as the bytes that it hands in,
+-- Document 01, "Two runs", for what the firmware does: tables that it was lent, read from images or brought in, requests as the bytes that it hands in,
 -- and the numbers that came back. "each step may be taken in either form": a run may mix the two in any way.
 use mathlib.Core.Path.{_≡_}
 use mathlib.Core.Bool.{true, false}
@@ -16,12 +16,13 @@ use Rattle.steps.specs.Steps.{after, stepOf}
 use Rattle.bounds.specs.Agreement.{AgreeOutside}
 use Rattle.confinement.specs.Tests.{testOf}
 use Rattle.image.specs.Images.{readOf}
+use Rattle.take_grant.specs.Imports.{importOf}
 use Rattle.wire.specs.Wires.{askFrom}
 use Rattle.entries.specs.Entries.{entriesIn}
 use Rattle.isolation.specs.Clean.{Clean, cleanAtStart, cleanAfter, cleanAtEnd, cleanRequests}
 use Rattle.isolation.specs.Demand.{AgreeOn}
 use Rattle.captable.specs.declared.Outcome.{Outcome}
-use Rattle.captable.specs.Crossing.{stepped, loaded, found}
+use Rattle.captable.specs.Crossing.{stepped, loaded, broughtIn, found}
 
 -- a table that the firmware has
 pub data Had : Table → Type 0 where
@@ -29,6 +30,8 @@ pub data Had : Table → Type 0 where
   owned : {t : Table} (vs : List Val) → Is T.the-row t vs → Had t
   -- what `captable_read` gave for an image's bytes
   read : {t : Table} (image : List ℕ) → Bytes image → t ≡ loaded (readOf image) .table → Had t
+  -- what `captable_import` gave for the bytes of an older rig's table
+  imported : {t : Table} (bytes : List ℕ) → t ≡ broughtIn (importOf bytes) .table → Had t
 
 -- a run from a table over requests as bytes: the last table, and the numbers that came back, first to last
 pub data Taken : Table → List (List ℕ) → Table → List ℕ → Type 0 where

@@ -1,6 +1,7 @@
 -- What is read after a put: the same place has what was put, every other place what it had. Assumes nothing.
-use mathlib.Core.Path.{_≡_, _∙_}
+use mathlib.Core.Path.{_≡_, _∙_, ap₂}
 use mathlib.Core.Logic.{_≢_}
+use mathlib.Core.List.{List}
 use Prim.Native.Nat.{ℕ, _+_, _*_, _≤_, _<_}
 use native.Mathlib.Omega.{arith}
 use lib.ListN.{length, length-set, List·getD-eq-default}
@@ -10,6 +11,10 @@ use Rattle.table.specs.declared.Capability.{Capability}
 use Rattle.table.specs.declared.Record.{Record}
 use Rattle.table.specs.declared.Table.{Table}
 use Rattle.table.specs.Cells.{IsTable, recordAt, slotAt, putRecord, putSlot, emptySlot, unbornRecord}
+
+-- two tables are the same if their lists are
+pub tables-same : {a b : List Record} {c d : List Capability} → a ≡ b → c ≡ d → _≡_ {A = Table} (record { records = a; slots = c }) (record { records = b; slots = d })
+tables-same e f = ap₂ (λ (x : List Record) (y : List Capability). record { records = x; slots = y }) e f
 
 -- 64 records and 512 slots
 pub record Sized (t : Table) : Type 0 where

@@ -2,6 +2,7 @@
 // The model also makes the expected output, so the gate compares two programs that share no code. The safety and the end of this
 // program are proved; what it prints is tested.
 use parts::images;
+use parts::imports;
 use parts::linked;
 use parts::output;
 use parts::relations;
@@ -22,6 +23,7 @@ enum Part {
     Relations,
     Links,
     Shown,
+    Imports,
 }
 
 // One case, or the end of the file. Only a chain uses and changes the table.
@@ -36,6 +38,7 @@ fn turn(part: Part, fd: i32, number: u64, t: table::Table) -> Turn {
         Part::Relations => turns::kept(relations::case(fd, number), t),
         Part::Links => turns::kept(linked::case(fd, number), t),
         Part::Shown => turns::kept(shown::case(fd, number), t),
+        Part::Imports => turns::kept(imports::case(fd, number), t),
     }
 }
 
@@ -66,7 +69,8 @@ fn start(part: Part, fd: i32) -> table::Table {
         | Part::Tests
         | Part::Relations
         | Part::Links
-        | Part::Shown => table::unborn_table(),
+        | Part::Shown
+        | Part::Imports => table::unborn_table(),
     }
 }
 
@@ -131,4 +135,5 @@ fn main() {
         b"shown",
         b"chains shown: case, number, count, numbers, digest of all 63\n",
     );
+    run(Part::Imports, b"imports", b"imports: case, number, table\n");
 }

@@ -11,8 +11,8 @@ extern "C" {
     fn peer_scan(table: *const raw::Table) -> u8;
 }
 
-/// The version that the comparison is for, 0.2.0: the first number times 65,536, the second times 256.
-pub const VERSION: u32 = 512;
+/// The version that the comparison is for, 0.3.0: the first number times 65,536, the second times 256.
+pub const VERSION: u32 = 768;
 
 /// The archive's calls, and the scan in C.
 pub trait Calls {
@@ -62,6 +62,12 @@ pub trait Calls {
     fn read(&self, image: &mut [u8]) -> raw::Outcome {
         // SAFETY: pointer and length are of one slice.
         unsafe { raw::captable_read(image.as_mut_ptr(), image.len()) }
+    }
+
+    /// Brings in a take-and-grant table.
+    fn import(&self, bytes: &mut [u8]) -> raw::Outcome {
+        // SAFETY: pointer and length are of one slice.
+        unsafe { raw::captable_import(bytes.as_mut_ptr(), bytes.len()) }
     }
 
     /// Writes an image into a buffer.

@@ -16,13 +16,14 @@ pub enum Call {
     Test,
     Chain,
     Read,
+    Import,
     Write,
     Confine,
     Version,
 }
 
 impl Call {
-    pub const ALL: [Call; 10] = [
+    pub const ALL: [Call; 11] = [
         Call::Step,
         Call::Stepped,
         Call::Sound,
@@ -30,6 +31,7 @@ impl Call {
         Call::Test,
         Call::Chain,
         Call::Read,
+        Call::Import,
         Call::Write,
         Call::Confine,
         Call::Version,
@@ -45,6 +47,7 @@ impl Call {
             Call::Test => "captable_test",
             Call::Chain => "captable_chain",
             Call::Read => "captable_read",
+            Call::Import => "captable_import",
             Call::Write => "captable_write",
             Call::Confine => "captable_confine",
             Call::Version => "captable_version",
@@ -55,7 +58,7 @@ impl Call {
     pub fn takes_table(self) -> bool {
         !matches!(
             self,
-            Call::Step | Call::Read | Call::Confine | Call::Version
+            Call::Step | Call::Read | Call::Import | Call::Confine | Call::Version
         )
     }
 }
@@ -68,7 +71,7 @@ pub struct Sample {
     pub number: u8,
     pub table: Table,
     pub members: u64,
-    /// The request, the list, the image, the input or the buffer.
+    /// The request, the list, the image, the import, the input or the buffer.
     pub bytes: Vec<u8>,
     /// The object whose chain is asked for.
     pub object: u8,
@@ -88,6 +91,7 @@ pub fn answer(call: Call, sample: &Sample) -> u8 {
             shown.number
         }
         Call::Read => Archive.read(&mut bytes).number,
+        Call::Import => Archive.import(&mut bytes).number,
         Call::Write => Archive.write(&mut table, &mut bytes),
         Call::Confine => {
             let mut out = [0; 256];

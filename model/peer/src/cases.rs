@@ -9,12 +9,13 @@ use yavrinks_model::image::{self, IMAGE_LENGTH};
 use yavrinks_model::set;
 use yavrinks_model::step::step;
 use yavrinks_model::table::Table;
+use yavrinks_model::take_grant;
 use yavrinks_model::wire::encode;
 use yavrinks_tools::generate::{encode_input, printed_number, ConfinementCase, ShownCase};
 
 use crate::calls::{Call, Sample};
-use crate::samples::{chain_table, farthest, own_test, places, requests};
-use crate::samples::{unsound_at_the_end, Place};
+use crate::samples::{chain_table, farthest, imports, mended, own_test, places, requests};
+use crate::samples::{unsound_at_the_end, Import, Place};
 
 /// The inputs of a call.
 pub fn samples(call: Call) -> Vec<Sample> {
@@ -26,6 +27,10 @@ pub fn samples(call: Call) -> Vec<Sample> {
         Call::Test => tests().into_iter().map(test).collect(),
         Call::Chain => tests().into_iter().flat_map(chains).map(shown).collect(),
         Call::Read => places.iter().flat_map(reads).collect(),
+        Call::Import => {
+            let whole = imports().into_iter().flat_map(brought_in);
+            whole.chain(tiny_imports()).collect()
+        }
         Call::Write => places.iter().flat_map(writes).collect(),
         Call::Confine => tests().into_iter().map(confined).chain([short()]).collect(),
         Call::Version => vec![nothing()],
@@ -231,6 +236,53 @@ fn reads(place: &Place) -> Vec<Sample> {
         object: 0,
     };
     images.into_iter().map(of).collect()
+}
+
+/// An import as it is, and with an offence of each kind: in the head, and in the last capability and at the end,
+/// where none but a walk over all entities finds it.
+fn brought_in(whole: Import) -> Vec<Sample> {
+    let Import { name, bytes } = whole;
+    let last = bytes.len() - 1;
+    let with = |place: usize, value: u8| {
+        let mut other = bytes.clone();
+        other[place] = value;
+        other
+    };
+    let mut longer = bytes.clone();
+    longer.push(0);
+    let cases = [
+        ("brought in", bytes.clone()),
+        ("other length field", with(1, bytes[1] ^ 1)),
+        ("version 0", with(2, 0)),
+        ("65 entities", with(3, 65)),
+        ("last target 64", with(last - 1, 64)),
+        ("last rights 32", with(last, 32)),
+        ("last rights missing", mended(bytes[..last].to_vec())),
+        ("a byte more", mended(longer)),
+    ];
+    let cases = cases.into_iter();
+    cases
+        .map(|(what, bytes)| import(format!("{what}, {name}"), bytes))
+        .collect()
+}
+
+/// An import without entities, and a byte that is none.
+fn tiny_imports() -> [Sample; 2] {
+    [
+        import(String::from("no entities"), vec![0, 4, 1, 0]),
+        import(String::from("one byte"), vec![7]),
+    ]
+}
+
+fn import(name: String, bytes: Vec<u8>) -> Sample {
+    Sample {
+        name,
+        number: take_grant::import(&bytes).0,
+        table: Table::unborn(),
+        members: 0,
+        bytes,
+        object: 0,
+    }
 }
 
 /// Writes of a place: into a buffer, into a short one, and of a table that is not sound.

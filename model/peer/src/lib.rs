@@ -1,5 +1,5 @@
 //! Holds the proved archive `libcaptable.a` to the reference model: the same answers on millions of
-//! requests, images and inputs, and what each call costs in time, stack and instructions.
+//! requests, images, imports and inputs, and what each call costs in time, stack and instructions.
 
 pub mod archive;
 pub mod bench;

@@ -1,11 +1,12 @@
-//! The tables, tests and requests that time, stack and instructions are measured on.
+//! The tables, tests, requests and imports that time, stack and instructions are measured on.
 
 use yavrinks_model::links::Links;
 use yavrinks_model::set;
 use yavrinks_model::step::{step_in_place, Code, Fields, Request};
 use yavrinks_model::table::{Capability, Record, Table, RD, WK, WR};
+use yavrinks_model::take_grant::{READ, STORE};
 use yavrinks_model::wire::decode_list;
-use yavrinks_tools::generate::{numbers_where, sound_table, ConfinementCase, Shape};
+use yavrinks_tools::generate::{full_import, numbers_where, sound_table, ConfinementCase, Shape};
 use yavrinks_tools::rng::Rng;
 
 /// A table to measure on, with an object that no other names: the member of its confinement test.
@@ -132,6 +133,36 @@ pub fn farthest(test: &ConfinementCase) -> Option<u8> {
         added = linked.fold(0, |all, more| all | more) & !there;
     }
     last
+}
+
+/// A take-and-grant table to measure on.
+#[derive(Clone, Debug)]
+pub struct Import {
+    pub name: &'static str,
+    pub bytes: Vec<u8>,
+}
+
+/// The longest import, 64 entities with eight capabilities each, and one of three entities that Store joins.
+pub fn imports() -> [Import; 2] {
+    [
+        Import {
+            name: "full",
+            bytes: full_import(&mut Rng::new(7)),
+        },
+        Import {
+            name: "small",
+            bytes: vec![0, 13, 1, 3, 1, 1, STORE, 0, 2, 1, STORE, 0, READ],
+        },
+    ]
+}
+
+/// The bytes with a length field that says how many they are, if they have one.
+pub fn mended(mut bytes: Vec<u8>) -> Vec<u8> {
+    let length = (bytes.len() as u16).to_be_bytes();
+    if let Some(field) = bytes.get_mut(..2) {
+        field.copy_from_slice(&length);
+    }
+    bytes
 }
 
 /// Each of the eight requests, done, then one refused by 6 and a nonsense code.

@@ -6,11 +6,12 @@ use yavrinks_model::chain::chain;
 use yavrinks_model::confinement::confinement_test;
 use yavrinks_model::set;
 use yavrinks_model::step::step;
+use yavrinks_model::take_grant;
 use yavrinks_model::wire::decode_list;
 use yavrinks_peer::calls::{answer, Call};
 use yavrinks_peer::cases::samples;
-use yavrinks_peer::samples::{farthest, held_list, own_test, places, requests, row};
-use yavrinks_tools::generate::{CONFINEMENT_NUMBERS, SHOWN_NUMBERS};
+use yavrinks_peer::samples::{farthest, held_list, imports, own_test, places, requests, row};
+use yavrinks_tools::generate::{CONFINEMENT_NUMBERS, IMPORT_NUMBERS, SHOWN_NUMBERS};
 
 #[test]
 fn both_tables_have_all_ten_requests() {
@@ -49,11 +50,27 @@ fn the_chain_that_is_measured_is_the_longest() {
     }
 }
 
+/// The full import has 64 entities with eight capabilities each; both are brought in, with as many objects as
+/// they have entities.
 #[test]
-fn tests_and_chains_are_measured_with_every_number() {
+fn the_imports_that_are_measured_are_brought_in() {
+    let [full, small] = imports();
+    assert_eq!(full.bytes.len(), 1092);
+    for (import, count) in [(full, 64), (small, 3)] {
+        assert_eq!(import.bytes[3], count, "{}", import.name);
+        let (number, table) = take_grant::import(&import.bytes);
+        assert_eq!(number, 0, "{}", import.name);
+        assert_eq!(table.born().count_ones(), u32::from(count));
+        assert!(table.is_sound());
+    }
+}
+
+#[test]
+fn tests_chains_and_imports_are_measured_with_every_number() {
     for (call, numbers) in [
         (Call::Test, &CONFINEMENT_NUMBERS[..]),
         (Call::Chain, &SHOWN_NUMBERS),
+        (Call::Import, &IMPORT_NUMBERS),
     ] {
         let met: BTreeSet<u8> = samples(call).iter().map(|sample| sample.number).collect();
         assert!(met.iter().eq(numbers), "{}: {met:?}", call.name());
@@ -70,6 +87,7 @@ fn the_archive_answers_every_sample_as_the_model_does() {
             numbers.push(number);
         }
         assert!(numbers.contains(&0), "{} is never done", call.name());
-        assert!(numbers.contains(&1) || matches!(call, Call::Confine | Call::Version));
+        let never = matches!(call, Call::Import | Call::Confine | Call::Version);
+        assert!(numbers.contains(&1) || never, "{}", call.name());
     }
 }

@@ -3,8 +3,9 @@
 use captable::raw;
 use yavrinks_peer::archive::{Archive, Calls};
 use yavrinks_peer::differential::{compare_inputs, compare_requests, Counts, Difference, Line};
+use yavrinks_peer::samples::mended;
 use yavrinks_tools::generate::{
-    CONFINEMENT_NUMBERS, CONFINE_NUMBERS, IMAGE_NUMBERS, SHOWN_NUMBERS,
+    CONFINEMENT_NUMBERS, CONFINE_NUMBERS, IMAGE_NUMBERS, IMPORT_NUMBERS, SHOWN_NUMBERS,
 };
 
 /// Enough to meet every call and every number.
@@ -39,13 +40,14 @@ fn every_number_of_every_call_is_met() {
     let mut counts = Counts::default();
     compare_requests(&Archive, 1, REQUESTS, &mut counts).expect("no difference");
     compare_inputs(&Archive, 1, INPUTS, &mut counts).expect("no difference");
-    let lines: [(Line, &[u8], u64); 7] = [
+    let lines: [(Line, &[u8], u64); 8] = [
         (Line::Sound, &[0, 1], 30),
         (Line::Access, &[0], 30),
         (Line::Test, &CONFINEMENT_NUMBERS, 3),
         (Line::Chain, &SHOWN_NUMBERS, 2),
         (Line::Write, &[0, 16], 3),
         (Line::Read, &IMAGE_NUMBERS, 30),
+        (Line::Import, &IMPORT_NUMBERS, 60),
         (Line::Confine, &CONFINE_NUMBERS, 5),
     ];
     for (line, numbers, least) in lines {
@@ -232,4 +234,87 @@ impl Calls for LongChain {
 #[test]
 fn a_number_after_the_chain_is_found() {
     is_found(&LongChain, "captable_chain", "numbers");
+}
+
+/// An archive whose imports are what a function makes of the right answer; the function may change the bytes.
+struct Imports(fn(&mut raw::Outcome, &mut [u8]));
+
+impl Calls for Imports {
+    fn import(&self, bytes: &mut [u8]) -> raw::Outcome {
+        let mut outcome = Archive.import(bytes);
+        (self.0)(&mut outcome, bytes);
+        outcome
+    }
+}
+
+/// Is an archive with such imports found out?
+fn import_is_found(part: &str, wrong: fn(&mut raw::Outcome, &mut [u8])) {
+    is_found(&Imports(wrong), "captable_import", part);
+}
+
+#[test]
+fn a_wrong_number_of_an_import_is_found() {
+    import_is_found("number", |outcome, _| {
+        if outcome.number == 22 {
+            outcome.number = 20;
+        }
+    });
+}
+
+/// A target above the last entity, with no rights after it, is 22; where it is judged after its rights, 20.
+#[test]
+fn a_target_that_is_judged_too_late_is_found() {
+    import_is_found("number", |outcome, bytes| {
+        let before = bytes.len().saturating_sub(1);
+        let mut cut = mended(bytes[..before].to_vec());
+        let by_the_last = Archive.import(&mut cut).number == 20;
+        if outcome.number == 22 && by_the_last && before > 4 {
+            outcome.number = 20;
+        }
+    });
+}
+
+#[test]
+fn store_that_becomes_rd_alone_is_found() {
+    import_is_found("table", |outcome, _| {
+        for slot in &mut outcome.table.slots {
+            if slot.rights == 3 {
+                slot.rights = 1;
+            }
+        }
+    });
+}
+
+/// A capability with no right gives an empty slot in its place, and no place is closed up.
+#[test]
+fn slots_that_are_closed_up_are_found() {
+    import_is_found("table", |outcome, _| {
+        for slots in outcome.table.slots.chunks_mut(8) {
+            slots.sort_by_key(|slot| slot.rights == 0);
+        }
+    });
+}
+
+#[test]
+fn a_passive_entity_is_found() {
+    import_is_found("table", |outcome, _| outcome.table.records[2].kind = 0);
+}
+
+/// What was brought in before the offence stays.
+#[test]
+fn a_refused_import_with_an_object_is_found() {
+    import_is_found("table", |outcome, _| {
+        if outcome.number == 22 {
+            outcome.table.records[0].status = 1;
+        }
+    });
+}
+
+#[test]
+fn an_import_that_changes_its_bytes_is_found() {
+    import_is_found("import", |outcome, bytes| {
+        if let (0, Some(last)) = (outcome.number, bytes.last_mut()) {
+            *last ^= 128;
+        }
+    });
 }

@@ -9,5 +9,6 @@ pub mod generate;
 pub mod progress;
 pub mod rng;
 pub mod rows;
+pub mod shared;
 pub mod two_runs;
 pub mod vectors;

@@ -19,14 +19,20 @@ use yavrinks_tools::definitions::wrong::wrong_cases;
 use yavrinks_tools::definitions::{summary, terms, Options};
 use yavrinks_tools::generate::{any_damage, any_sound_table, ConfinementCase, ShownCase};
 use yavrinks_tools::rng::Rng;
+use yavrinks_tools::shared::shared_imports;
 
 fn cases_of(seed: u64, runs: usize, rounds: usize) -> Vec<Case> {
-    let questions = questions(seed, &Counts { runs, rounds });
+    let counts = Counts {
+        runs,
+        rounds,
+        imports: 0,
+    };
+    let questions = questions(seed, &counts);
     questions.into_iter().map(Case::new).collect()
 }
 
 fn default_cases() -> Vec<Case> {
-    let Counts { runs, rounds } = Counts::default();
+    let Counts { runs, rounds, .. } = Counts::default();
     cases_of(1, runs, rounds)
 }
 
@@ -237,6 +243,41 @@ fn a_least_chain_is_stated_over_words_of_links() {
     assert!(!text.contains("table-0005"), "{text}");
 }
 
+/// Entity 0 has Store and Grant to 1 in slot 1, and nothing that is kept in slot 0.
+#[test]
+fn an_import_is_stated_with_the_table_that_it_becomes() {
+    let case = Case::new(Question::Import {
+        bytes: vec![0, 10, 1, 2, 2, 1, 8, 1, 20, 0],
+    });
+    let mut after = Table::unborn();
+    for record in &mut after.records[..2] {
+        (record.status, record.kind) = (1, 1);
+    }
+    after.records[0].slots[1] = Capability::new(1, 11);
+    let text = declarations(&case, 5, "A.b");
+    let declared = "bytes-0005 = 0 ∷ 10 ∷ 1 ∷ 2 ∷ 2 ∷ 1 ∷ 8 ∷ 1\n    ∷ 20 ∷ 0 ∷ []\n";
+    assert!(text.contains(declared), "{text}");
+    assert!(text.contains(&format!("after-0005 = {}\n", terms::table(&after))));
+    let statement =
+        "case-0005 : _≡_ {A = ℕ × Table} (imported (importOf bytes-0005)) (0, after-0005)\n";
+    assert!(text.contains(statement), "{text}");
+}
+
+#[test]
+fn a_refused_import_is_stated_with_the_unborn_table() {
+    for (bytes, number) in [
+        (vec![], 20),
+        (vec![0, 4, 2, 0], 21),
+        (vec![0, 4, 1, 65], 22),
+    ] {
+        let text = declarations(&Case::new(Question::Import { bytes }), 5, "A.b");
+        let unborn = terms::table(&Table::unborn());
+        assert!(text.contains(&format!("after-0005 = {unborn}\n")));
+        let stated = format!("(imported (importOf bytes-0005)) ({number}, after-0005)\n");
+        assert!(text.contains(&stated), "{text}");
+    }
+}
+
 /// 3, 4 and 6 are clean. 4 is refused, 5 is not clean.
 fn clean_case(parts: &[Part]) -> Case {
     Case::new(Question::Clean {
@@ -292,7 +333,7 @@ fn the_default_run_asks_everything() {
         .iter()
         .map(|case| (case.question.subject(), case.answer.number()))
         .collect();
-    let expected: [(&str, &[u8]); 18] = [
+    let expected: [(&str, &[u8]); 19] = [
         ("clean along a run", &[0]),
         ("1 read", &[0, 1, 2, 3, 4, 5, 6]),
         ("2 write", &[0, 1, 2, 3, 4, 5, 6]),
@@ -309,6 +350,7 @@ fn the_default_run_asks_everything() {
         ("potential access", &[0, 1]),
         ("image read", &[0, 1, 14, 15]),
         ("image written", &[0, 1, 16]),
+        ("import", &[0, 20, 21, 22]),
         ("request as bytes", &[0, 2]),
         ("list as bytes", &[0, 11]),
     ];
@@ -365,6 +407,20 @@ fn a_seed_settles_the_cases_and_each_kind_stands_alone() {
 }
 
 #[test]
+fn shared_imports_are_asked_on_demand() {
+    let counts = |imports| Counts {
+        runs: 0,
+        rounds: 0,
+        imports,
+    };
+    let asked = questions(1, &counts(1000));
+    let import = |bytes| Question::Import { bytes };
+    let shared: Vec<Question> = shared_imports().into_iter().map(import).collect();
+    assert_eq!(asked, shared);
+    assert_eq!(questions(1, &counts(7)), shared[..7]);
+}
+
+#[test]
 fn wrong_answers_differ_from_the_right_ones() {
     let cases = cases_of(6, 24, 1);
     let wrong = wrong_cases(&mut Rng::new(6), &cases);
@@ -373,8 +429,10 @@ fn wrong_answers_differ_from_the_right_ones() {
     }
     let is_clean = |case: &&Case| matches!(case.question, Question::Clean { .. });
     assert_eq!(wrong.iter().filter(is_clean).count(), Part::ALL.len());
+    let is_import = |case: &&Case| matches!(case.question, Question::Import { .. });
+    assert_eq!(wrong.iter().filter(is_import).count(), 3);
     // Of each of nine other kinds a wrong number and wrong content, of least chains wrong content.
-    assert_eq!(wrong.len(), Part::ALL.len() + 2 * 9 + 1);
+    assert_eq!(wrong.len(), Part::ALL.len() + 3 + 2 * 9 + 1);
 }
 
 /// Chains of one length compete in most of the least chains that are asked, and in some others.
@@ -650,9 +708,21 @@ fn the_summary_names_what_was_not_accepted() {
 
 #[test]
 fn options_are_read() {
-    let words = ["--seed", "9", "--runs", "5", "--keep", "/x", "--root", "/y"];
+    let words = [
+        "--seed",
+        "9",
+        "--runs",
+        "5",
+        "--imports",
+        "160",
+        "--keep",
+        "/x",
+        "--root",
+        "/y",
+    ];
     let options = Options::parse(&words).expect("options");
     assert_eq!((options.seed, options.counts.runs), (9, 5));
+    assert_eq!(options.counts.imports, 160);
     assert_eq!(options.counts.rounds, Counts::default().rounds);
     assert_eq!(options.keep, Some("/x".into()));
     assert_eq!(options.root, Path::new("/y"));

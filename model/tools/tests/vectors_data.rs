@@ -9,10 +9,12 @@ use yavrinks_model::chain::chain as shown_chain;
 use yavrinks_model::confinement::confinement_test;
 use yavrinks_model::image::{read, write};
 use yavrinks_model::step::{step, step_in_place, Request};
+use yavrinks_model::take_grant::import;
 use yavrinks_tools::generate::can_meet;
+use yavrinks_tools::shared::shared_imports;
 use yavrinks_tools::vectors::{
-    access_cases, chain, edges, image_cases, output, parts, shown_cases, step_cases, test_cases,
-    write_cases,
+    access_cases, chain, edges, image_cases, import_cases, output, parts, shown_cases, step_cases,
+    test_cases, write_cases,
 };
 
 /// How often each outcome comes.
@@ -197,6 +199,22 @@ fn chains_are_shown_for_every_outcome() {
     for object in [64, 255] {
         assert!(cases.iter().any(|case| case.object == object));
     }
+}
+
+#[test]
+fn imports_reach_every_number_and_are_short() {
+    let cases = import_cases();
+    assert!((250..=300).contains(&cases.len()), "{}", cases.len());
+    assert!(cases.starts_with(&shared_imports()));
+    let numbers = cases.iter().map(|bytes| import(bytes).0);
+    let least = [(0, 100), (20, 100), (21, 25), (22, 45)];
+    expect(&counts(numbers), &least);
+    let lengths = counts(cases.iter().map(Vec::len));
+    assert!((0..=16).all(|length| lengths.contains_key(&length)));
+    assert!(lengths.contains_key(&1092));
+    // All data together has a limit, which leaves no room for long ones.
+    let bytes: usize = cases.iter().map(|bytes| bytes.len() + 2).sum();
+    assert!(bytes < 14_000, "{bytes}");
 }
 
 /// A change of the generator or of the model is to be followed by the command `vectors`.

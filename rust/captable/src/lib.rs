@@ -2,9 +2,9 @@
 //!
 //! The calls are those of `libcaptable.a`, which `rt staticlib captable` proves and writes. This crate
 //! gives them types: a [`Table`] of 64 objects with eight slots each, a [`Request`] of eight kinds,
-//! potential access as a [`Relation`], the confinement test, the [`Chain`] to an object of its bound, and
-//! images. A refusal is a value with the number of document 01 or 02, and changes neither the table nor any
-//! buffer.
+//! potential access as a [`Relation`], the confinement test, the [`Chain`] to an object of its bound, images,
+//! and [imports](Table::import) of take-and-grant tables. A refusal is a value with the number of document 01
+//! or 02, and changes neither the table nor any buffer.
 //!
 //! ```
 //! use captable::{Capability, Request, Set, StepRefusal, Table, ACTIVE, ALIVE, WR};
@@ -105,7 +105,7 @@ pub use confine::{confine, Printed, CONFINE_BYTES};
 pub use pairs::{Pair, PairList, TooManyPairs, MAX_PAIRS};
 pub use raw::{Capability, Record};
 pub use refusal::{
-    AccessRefusal, ChainRefusal, ReadRefusal, StepRefusal, TestRefusal, WriteRefusal,
+    AccessRefusal, ChainRefusal, ImportRefusal, ReadRefusal, StepRefusal, TestRefusal, WriteRefusal,
 };
 pub use relation::{Relation, Right};
 pub use request::{Request, RequestBytes, NO_REPLY, REQUEST_BYTES};
@@ -118,6 +118,8 @@ pub const OBJECTS: u8 = 64;
 pub const SLOTS: u8 = 8;
 /// The length of an image in bytes.
 pub const IMAGE_BYTES: usize = 1923;
+/// The length of the longest import in bytes: 64 entities with eight capabilities each.
+pub const IMPORT_BYTES: usize = 1092;
 /// The most entries that the list of a test may have.
 pub const MAX_ENTRIES: usize = 8;
 
@@ -144,7 +146,7 @@ pub const TX: u8 = 8;
 
 /// The version of the calls that this crate was written for: 65,536 times the first number, 256 times the
 /// second, and the third.
-pub const VERSION: u32 = 0x00_02_00;
+pub const VERSION: u32 = 0x00_03_00;
 
 /// The version of the calls that were linked. Where it is not [`VERSION`], the archive is another than the
 /// crate was written for.

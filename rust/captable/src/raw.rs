@@ -143,6 +143,12 @@ extern "C" {
     /// # Safety
     /// `image` points to `length` bytes.
     pub fn captable_read(image: *const u8, length: usize) -> Outcome;
+    /// Brings in a take-and-grant table of an older rig; on every refusal with the wholly unborn table. The
+    /// table that is given back is always sound.
+    ///
+    /// # Safety
+    /// `bytes` points to `length` bytes.
+    pub fn captable_import(bytes: *const u8, length: usize) -> Outcome;
     /// Writes a table's image into the first 1,923 bytes of a buffer. A refusal leaves every byte.
     ///
     /// # Safety

@@ -131,3 +131,17 @@ refusals! {
         BufferShort = 16, "the buffer is too short";
     }
 }
+
+refusals! {
+    /// Why a take-and-grant table was not brought in: the first offence, as its bytes come.
+    ImportRefusal {
+        /// There are fewer than four bytes, the length field is not how many there are, or the entities do
+        /// not end with the last of them.
+        ImportLengthWrong = 20, "the import has a wrong length";
+        /// The version byte is not 1.
+        ImportVersionWrong = 21, "the import has a wrong version";
+        /// There are more than 64 entities, an entity has more than eight capabilities, a target is no
+        /// entity's number, or rights are above 31.
+        ImportValueWrong = 22, "a count, a target or rights in the import are out of range";
+    }
+}

@@ -2,8 +2,9 @@
 
 use crate::raw;
 use crate::request::REQUEST_BYTES;
-use crate::{AccessRefusal, ChainRefusal, ReadRefusal, StepRefusal, TestRefusal, WriteRefusal};
+use crate::{AccessRefusal, ChainRefusal, ImportRefusal, ReadRefusal};
 use crate::{Capability, Chain, Record, Relation, Request, Set};
+use crate::{StepRefusal, TestRefusal, WriteRefusal};
 use crate::{IMAGE_BYTES, MAX_ENTRIES, OBJECTS, SLOTS};
 
 /// The capability table: 64 records with eight slots each. Any value may be put into it; every call
@@ -53,6 +54,45 @@ impl Table {
         // SAFETY: the pointer and the length are of one slice.
         let outcome = unsafe { raw::captable_read(image.as_ptr(), image.len()) };
         ReadRefusal::check(outcome.number)?;
+        Ok(Table(outcome.table))
+    }
+
+    /// The take-and-grant table of an older rig (source document 001), brought in. It is always sound.
+    ///
+    /// The bytes are their own length in two bytes, the most significant first; the version byte 1; how many
+    /// entities there are, 0 to 64; and the entities, each with how many capabilities it has, 0 to 8, and for
+    /// each of them the target and the rights, which add up: 1 Read, 2 Write, 4 Grant, 8 Create, 16 Store.
+    ///
+    /// Entities are numbered from 0 as they come, and become alive and active, with word 0 and no stock. Their
+    /// capabilities go into their slots in order: Read becomes rd, Write wr, Grant tx, Store rd and wr
+    /// together, Create nothing; a capability that is left with no right gives an empty slot in its place.
+    /// All other numbers are unborn, and since they are in no stock, no object can be made in this table.
+    ///
+    /// ```
+    /// use captable::{Capability, ImportRefusal, Set, Table, RD, WR};
+    ///
+    /// // 0 and 2 have Store over 1, and 3 has Write over 0.
+    /// let bytes = [0, 14, 1, 4, 1, 1, 16, 0, 1, 1, 16, 1, 0, 2];
+    /// let table = Table::import(&bytes)?;
+    /// assert_eq!(*table.slot(0, 0), Capability { target: 1, rights: RD | WR });
+    ///
+    /// // It is judged as any table: 3 gets at 0, and by the Store links at 1 and 2.
+    /// let list = [Capability { target: 0, rights: WR }];
+    /// assert_eq!(table.test(Set::of(&[3]), &list), Ok(Set::of(&[0, 1, 2])));
+    ///
+    /// assert_eq!(Table::import(&bytes[..13]), Err(ImportRefusal::ImportLengthWrong));
+    /// # Ok::<(), ImportRefusal>(())
+    /// ```
+    ///
+    /// # Errors
+    /// 20 for fewer than four bytes or a length field that is not how many there are, then 21 for a version
+    /// byte that is not 1, then 22 for more than 64 entities. Then the first offence as the entities are gone
+    /// through byte by byte: 22 for more than eight capabilities, a target that is no entity's number or
+    /// rights above 31, 20 where the bytes end before the entities do or go on after them.
+    pub fn import(bytes: &[u8]) -> Result<Table, ImportRefusal> {
+        // SAFETY: the pointer and the length are of one slice.
+        let outcome = unsafe { raw::captable_import(bytes.as_ptr(), bytes.len()) };
+        ImportRefusal::check(outcome.number)?;
         Ok(Table(outcome.table))
     }
 

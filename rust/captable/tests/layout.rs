@@ -1,7 +1,8 @@
 //! The structs are laid out as `include/captable.h` asserts on the C side: sizes and offsets are written
-//! here a second time, and the header's assertions are read and compared.
+//! here a second time, and the header's assertions are read and compared. So are the sizes that it defines.
 
 use captable::raw::{Capability, Finding, Outcome, Record, Relation, Shown, Table};
+use captable::{IMAGE_BYTES, IMPORT_BYTES, MAX_ENTRIES, MAX_LINKS, MAX_PAIRS, REQUEST_BYTES};
 use std::mem::{align_of, offset_of, size_of};
 
 #[test]
@@ -70,5 +71,23 @@ fn the_header_asserts_the_same() {
         ("shown_number", offset_of!(Shown, number)),
     ] {
         assert_eq!(asserted(header, name), here, "{name}");
+    }
+}
+
+#[test]
+fn the_header_defines_the_same_sizes() {
+    let header = include_str!("../../../include/captable.h");
+    for (name, here) in [
+        ("OBJECTS", usize::from(captable::OBJECTS)),
+        ("SLOTS", usize::from(captable::SLOTS)),
+        ("IMAGE_BYTES", IMAGE_BYTES),
+        ("IMPORT_BYTES", IMPORT_BYTES),
+        ("REQUEST_BYTES", REQUEST_BYTES),
+        ("PAIRS", MAX_PAIRS),
+        ("ENTRIES", MAX_ENTRIES),
+        ("LINKS", MAX_LINKS),
+    ] {
+        let defined = format!("\n#define CAPTABLE_{name} {here} ");
+        assert!(header.contains(&defined), "{name}");
     }
 }

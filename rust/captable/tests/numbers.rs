@@ -1,7 +1,8 @@
 //! README's table of numbers and the header say of every cause the number and the word that it has here.
 
-use captable::{AccessRefusal, ChainRefusal, ReadRefusal, StepRefusal, TestRefusal, WriteRefusal};
-use std::fmt::Debug;
+use captable::{AccessRefusal, ChainRefusal, ImportRefusal, ReadRefusal};
+use captable::{StepRefusal, TestRefusal, WriteRefusal};
+use std::fmt::{Debug, Display};
 
 /// A number, and the name of its cause.
 type Named = (u8, String);
@@ -48,8 +49,16 @@ fn causes(named_17: &str) -> Vec<Named> {
         [ChainRefusal::ObjectInvalid, ChainRefusal::OutsideBound]
             .map(|cause| named(cause.number(), cause)),
     );
+    all.extend(IMPORT.map(|cause| named(cause.number(), cause)));
     all
 }
+
+/// Why an import is refused.
+const IMPORT: [ImportRefusal; 3] = [
+    ImportRefusal::ImportLengthWrong,
+    ImportRefusal::ImportVersionWrong,
+    ImportRefusal::ImportValueWrong,
+];
 
 #[test]
 fn the_table_in_readme_has_every_cause_and_no_other() {
@@ -147,11 +156,17 @@ fn reason(header: &str, name: &str) -> String {
 }
 
 #[test]
-fn the_header_gives_the_same_reasons_for_18_and_19() {
+fn the_header_gives_the_same_reasons_from_18_on() {
     let header = include_str!("../../../include/captable.h");
+    let same = |number: u8, cause: &dyn Debug, told: &dyn Display| {
+        let name = in_c(&format!("{cause:?}"));
+        let reason = format!("refused {number}: {}", reason(header, &name));
+        assert_eq!(told.to_string(), reason);
+    };
     for refusal in [ChainRefusal::ObjectInvalid, ChainRefusal::OutsideBound] {
-        let name = in_c(&format!("{refusal:?}"));
-        let told = format!("refused {}: {}", refusal.number(), reason(header, &name));
-        assert_eq!(refusal.to_string(), told);
+        same(refusal.number(), &refusal, &refusal);
+    }
+    for refusal in IMPORT {
+        same(refusal.number(), &refusal, &refusal);
     }
 }

@@ -1,14 +1,15 @@
 //! The boundary itself: both forms of the step agree, no bytes at all may come with a null pointer, a chain
-//! has zeros after its numbers, and what `confine` prints leaves the rest of its buffer.
+//! has zeros after its numbers, an import that is refused gives the unborn table, and what `confine` prints
+//! leaves the rest of its buffer.
 
 mod common;
 
 use captable::raw::{
-    captable_chain, captable_confine, captable_read, captable_step, captable_step_by_value,
-    captable_test, captable_write, Shown,
+    captable_chain, captable_confine, captable_import, captable_read, captable_step,
+    captable_step_by_value, captable_test, captable_write, Outcome, Shown,
 };
-use captable::{Table, WR};
-use common::{k, set};
+use captable::{Table, ACTIVE, ALIVE, WR};
+use common::{cap, k, set};
 use std::ptr::{null, null_mut};
 
 #[test]
@@ -49,6 +50,11 @@ fn no_bytes_may_come_with_a_null_pointer() {
         assert_eq!(
             (refused.number, refused.table),
             (14, *Table::unborn().as_raw())
+        );
+        let refused = captable_import(null(), 0);
+        assert_eq!(
+            (refused.number, refused.table),
+            (20, *Table::unborn().as_raw())
         );
         assert_eq!(captable_write(*k().as_raw(), null_mut(), 0), 16);
         assert_eq!(captable_confine(null(), 0, &mut printed), 11);
@@ -106,5 +112,45 @@ fn a_chain_that_is_refused_has_no_numbers() {
             number,
         };
         assert_eq!(shown(list, object), expected, "{list:?}, {object}");
+    }
+}
+
+/// What is brought in of bytes that are lent to be changed, and are as they were.
+fn imported(bytes: &[u8]) -> Outcome {
+    let mut lent = bytes.to_vec();
+    // SAFETY: the bytes are this test's own.
+    let outcome = unsafe { captable_import(lent.as_mut_ptr(), lent.len()) };
+    assert_eq!(lent, bytes);
+    outcome
+}
+
+#[test]
+fn an_import_gives_its_table_and_leaves_its_bytes() {
+    let mut expected = Table::unborn();
+    for n in 0..2 {
+        expected.record_mut(n).status = ALIVE;
+        expected.record_mut(n).kind = ACTIVE;
+    }
+    *expected.slot_mut(1, 1) = cap(1, WR);
+    let outcome = imported(&[0, 10, 1, 2, 0, 2, 0, 8, 1, 2]);
+    assert_eq!((outcome.number, outcome.table), (0, *expected.as_raw()));
+}
+
+/// The offence stands after an entity that is in order, and nothing of that is left.
+#[test]
+fn an_import_that_is_refused_gives_the_unborn_table() {
+    for (bytes, number) in [
+        (&[0, 9, 1, 2, 1, 1, 31, 0][..], 20), // nine, and there are eight
+        (&[0, 8, 2, 2, 1, 1, 31, 0], 21),
+        (&[0, 8, 1, 65, 1, 1, 31, 0], 22),
+        (&[0, 8, 1, 3, 1, 1, 31, 0], 20),
+        (&[0, 9, 1, 2, 1, 1, 31, 0, 0], 20),
+        (&[0, 8, 1, 2, 1, 1, 31, 9], 22),
+        (&[0, 10, 1, 2, 1, 1, 31, 1, 2, 0], 22),
+        (&[0, 10, 1, 2, 1, 1, 31, 1, 1, 32], 22),
+    ] {
+        let outcome = imported(bytes);
+        assert_eq!(outcome.number, number, "{bytes:?}");
+        assert_eq!(outcome.table, *Table::unborn().as_raw(), "{bytes:?}");
     }
 }

@@ -10,7 +10,7 @@ use std::process::ExitCode;
 
 use yavrinks_tools::progress::Progress;
 
-use crate::samples::{places, requests, row, Place};
+use crate::samples::{imports, places, requests, row, Place};
 use measure::{Figures, ROUNDS};
 
 /// The most that a lent step should take, in scans.
@@ -21,7 +21,8 @@ const NOTE: &str = "\
 Nanoseconds a call are the least of the rounds. Below 1.00 the proved call is faster. Middle, low and
 high are of the ratios of the single rounds. By value both sides copy the table. Lent, an allocate and a
 destroy are undone after each call, on both sides alike. The time of the scan in C stands under proved.
-A chain is that to the object farthest off.
+A chain is that to the object farthest off. A full import has 64 entities of eight capabilities, a small
+one three entities.
 ";
 
 /// Times everything and prints a line a call.
@@ -33,7 +34,7 @@ pub fn command() -> ExitCode {
         .sum();
     // The chain against the test, and on the row against the model too.
     let chains = places.len() + 2;
-    let all = 3 * each + places.len() * wholes::ALL.len() + chains;
+    let all = 3 * each + places.len() * wholes::ALL.len() + chains + imports().len();
     eprintln!("bench: {all} calls to be timed, about a tenth of a second each");
     let mut timing = Timing::new(all as u64);
 
@@ -41,18 +42,22 @@ pub fn command() -> ExitCode {
     head("call", "proved ns", "model ns");
     for place in &places {
         for (name, request) in requests(&place.table) {
-            timing.line(place, &format!("{name} by value"), || {
+            timing.on(place, &format!("{name} by value"), || {
                 steps::by_value(&place.table, &request)
             });
-            timing.line(place, &format!("{name} lent"), || {
+            timing.on(place, &format!("{name} lent"), || {
                 steps::lent(&place.table, &request)
             });
         }
         for (name, figures) in wholes::ALL {
-            timing.line(place, name, || figures(place));
+            timing.on(place, name, || figures(place));
         }
     }
-    timing.line(&row(), "chain", || wholes::chain(&row()));
+    timing.on(&row(), "chain", || wholes::chain(&row()));
+    for import in imports() {
+        let name = format!("import {}", import.name);
+        timing.line(&name, || wholes::import(&import.bytes));
+    }
     archive_alone(&places, &mut timing);
     ExitCode::SUCCESS
 }
@@ -62,13 +67,13 @@ fn archive_alone(places: &[Place], timing: &mut Timing) {
     println!("\nThe chain against the test that it begins with.\n");
     head("call", "chain ns", "test ns");
     for place in places.iter().chain([&row()]) {
-        timing.line(place, "chain", || wholes::chain_against_test(place));
+        timing.on(place, "chain", || wholes::chain_against_test(place));
     }
     println!("\nThe lent step against one soundness scan in C -O3. Goal: at most {GOAL:.2}.\n");
     head("call", "step ns", "scan ns");
     for place in places {
         for (name, request) in requests(&place.table) {
-            timing.line(place, &format!("{name} lent"), || {
+            timing.on(place, &format!("{name} lent"), || {
                 steps::lent_against_scan(&place.table, &request)
             });
         }
@@ -89,10 +94,15 @@ impl Timing {
         }
     }
 
-    fn line(&mut self, place: &Place, name: &str, figures: impl FnOnce() -> Figures) {
+    fn line(&mut self, name: &str, figures: impl FnOnce() -> Figures) {
         self.progress.at(self.done);
         self.done += 1;
-        line(&format!("{name}, {}", place.name), &figures());
+        line(name, &figures());
+    }
+
+    /// The line of a call on a place.
+    fn on(&mut self, place: &Place, name: &str, figures: impl FnOnce() -> Figures) {
+        self.line(&format!("{name}, {}", place.name), figures);
     }
 }
 

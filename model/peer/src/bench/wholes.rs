@@ -1,4 +1,4 @@
-//! The calls on a whole table, and the scan in C.
+//! The calls on a whole table or on bytes, and the scan in C.
 
 use std::hint::black_box;
 
@@ -7,6 +7,7 @@ use yavrinks_model::access::potential_access;
 use yavrinks_model::chain::chain as model_chain;
 use yavrinks_model::confinement::confinement_test;
 use yavrinks_model::image::{self, IMAGE_LENGTH};
+use yavrinks_model::take_grant;
 use yavrinks_tools::generate::ConfinementCase;
 
 use super::measure::{in_turn, Figures};
@@ -147,6 +148,21 @@ fn read(place: &Place) -> Figures {
         },
         || {
             let outcome = image::read(black_box(&bytes));
+            black_box(&outcome);
+        },
+    )
+}
+
+/// A take-and-grant table that is brought in.
+pub fn import(bytes: &[u8]) -> Figures {
+    let mut given = bytes.to_vec();
+    in_turn(
+        || {
+            let outcome = Archive.import(black_box(&mut given));
+            black_box(&outcome);
+        },
+        || {
+            let outcome = take_grant::import(black_box(bytes));
             black_box(&outcome);
         },
     )

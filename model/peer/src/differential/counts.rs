@@ -4,8 +4,8 @@ use std::fmt;
 
 use yavrinks_model::step::Code;
 
-/// The numbers that calls give are 0 to 19.
-const NUMBERS: usize = 20;
+/// The numbers that calls give are 0 to 22.
+const NUMBERS: usize = 23;
 
 /// The lines of the summary, in order.
 #[derive(Clone, Copy, Debug, PartialEq, Eq)]
@@ -19,11 +19,12 @@ pub enum Line {
     Chain,
     Write,
     Read,
+    Import,
     Confine,
 }
 
 /// How many lines there are.
-const LINES: usize = 17;
+const LINES: usize = 18;
 
 /// The names of the lines, in order of their place.
 fn names() -> Vec<String> {
@@ -36,6 +37,7 @@ fn names() -> Vec<String> {
         "chain to an object",
         "image written, read back",
         "image read",
+        "import",
         "confine",
     ];
     let codes = Code::ALL.map(Code::label).into_iter();
@@ -57,7 +59,8 @@ impl Line {
             Line::Chain => 13,
             Line::Write => 14,
             Line::Read => 15,
-            Line::Confine => 16,
+            Line::Import => 16,
+            Line::Confine => 17,
         }
     }
 }
@@ -67,7 +70,7 @@ impl Line {
 pub struct Counts([[u64; NUMBERS]; LINES]);
 
 impl Counts {
-    /// Counts one answer. No call gives a number above 19.
+    /// Counts one answer. No call gives a number above 22.
     pub fn add(&mut self, line: Line, number: u8) {
         self.0[line.place()][usize::from(number)] += 1;
     }

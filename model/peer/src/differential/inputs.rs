@@ -1,10 +1,12 @@
-//! Images and inputs of `confine`: right ones, aimed ones, and what damage makes of them.
+//! Images, imports and inputs of `confine`: right ones, aimed ones, and what damage makes of them.
 
 use yavrinks_model::image::{HEAD_LENGTH, IMAGE_LENGTH, RECORD_LENGTH};
-use yavrinks_tools::generate::{confine_input, image_case, CONFINE_NUMBERS, IMAGE_NUMBERS};
+use yavrinks_tools::generate::{confine_input, image_case, import_case};
+use yavrinks_tools::generate::{CONFINE_NUMBERS, IMAGE_NUMBERS, IMPORT_NUMBERS};
 use yavrinks_tools::rng::Rng;
 
 use super::draw::any_bytes;
+use crate::samples::mended;
 
 /// How often bytes are damaged in a new way before others are made.
 const USES: u32 = 4;
@@ -12,6 +14,7 @@ const USES: u32 = 4;
 /// A kind of bytes: made for one of the numbers, then used some times.
 pub struct Source {
     make: fn(&mut Rng, u8) -> Vec<u8>,
+    damage: fn(&mut Rng, &mut Vec<u8>),
     numbers: &'static [u8],
     bytes: Vec<u8>,
     left: u32,
@@ -20,17 +23,27 @@ pub struct Source {
 impl Source {
     /// Images, for every number that reading gives.
     pub fn images() -> Source {
-        Source::new(image_case, &IMAGE_NUMBERS)
+        Source::new(image_case, damage_image, &IMAGE_NUMBERS)
+    }
+
+    /// Imports, for every number that they give.
+    pub fn imports() -> Source {
+        Source::new(import_case, damage_import, &IMPORT_NUMBERS)
     }
 
     /// Inputs of `confine`, for every number that it prints.
     pub fn confine_inputs() -> Source {
-        Source::new(confine_input, &CONFINE_NUMBERS)
+        Source::new(confine_input, damage_image, &CONFINE_NUMBERS)
     }
 
-    fn new(make: fn(&mut Rng, u8) -> Vec<u8>, numbers: &'static [u8]) -> Source {
+    fn new(
+        make: fn(&mut Rng, u8) -> Vec<u8>,
+        damage: fn(&mut Rng, &mut Vec<u8>),
+        numbers: &'static [u8],
+    ) -> Source {
         Source {
             make,
+            damage,
             numbers,
             bytes: Vec::new(),
             left: 0,
@@ -47,14 +60,14 @@ impl Source {
         self.left -= 1;
         let mut bytes = self.bytes.clone();
         if self.left + 1 < USES {
-            damage(rng, &mut bytes);
+            (self.damage)(rng, &mut bytes);
         }
         bytes
     }
 }
 
-/// Damage of one kind.
-fn damage(rng: &mut Rng, bytes: &mut Vec<u8>) {
+/// Damage of one kind, to an image or to an input of `confine`.
+fn damage_image(rng: &mut Rng, bytes: &mut Vec<u8>) {
     let length = bytes.len();
     match rng.between(0, 99) {
         0..=24 => put_bytes(rng, bytes, 0, length, 1),
@@ -86,6 +99,46 @@ fn damage(rng: &mut Rng, bytes: &mut Vec<u8>) {
         }
         _ => *bytes = noise(rng),
     }
+}
+
+/// The bytes of an import before its first entity.
+const IMPORT_HEAD: usize = 4;
+
+/// Damage of one kind to an import. Most often the length field is mended after it, for what follows the field
+/// is looked at only where the field is right.
+fn damage_import(rng: &mut Rng, bytes: &mut Vec<u8>) {
+    let length = bytes.len();
+    match rng.between(0, 99) {
+        0..=39 => put_bytes(rng, bytes, IMPORT_HEAD, length, 1),
+        40..=54 => {
+            let count = rng.between(2, 12);
+            put_bytes(rng, bytes, IMPORT_HEAD, length, count);
+        }
+        55..=64 => put_bytes(rng, bytes, 2, IMPORT_HEAD, 1),
+        65..=69 => put_bytes(rng, bytes, 0, length, 3),
+        70..=79 => bytes.truncate(rng.between(0, length as u64) as usize),
+        80..=89 => {
+            let more = rng.between(1, 20) as usize;
+            bytes.extend(any_bytes(rng, more));
+        }
+        _ => *bytes = import_noise(rng),
+    }
+    if rng.percent(80) {
+        *bytes = mended(std::mem::take(bytes));
+    }
+}
+
+/// Small values of any number, which are more often in range than any values are, with an import's head.
+fn import_noise(rng: &mut Rng) -> Vec<u8> {
+    let length = rng.between(0, 1200) as usize;
+    let mut bytes = any_bytes(rng, length);
+    for byte in &mut bytes {
+        *byte &= 7;
+    }
+    if let Some(head) = bytes.get_mut(2..IMPORT_HEAD) {
+        head.copy_from_slice(&[1, rng.byte(0, 64)]);
+    }
+    bytes
 }
 
 /// Random values in some places from `start` to before `end`.

@@ -1,5 +1,5 @@
-//! The archive and the model on the same requests, images and inputs. All of them follow from the
-//! seed, so that the same command does the same on every machine.
+//! The archive and the model on the same requests, images, imports and inputs. All of them follow from
+//! the seed, so that the same command does the same on every machine.
 
 mod aim;
 mod counts;
@@ -15,8 +15,8 @@ pub use counts::{Counts, Line};
 pub use facts::{Compared, Difference};
 pub use steps::{compare_step, Ask, Twin};
 pub use wholes::{
-    compare_access, compare_chain, compare_confine, compare_read, compare_sound, compare_test,
-    compare_write,
+    compare_access, compare_chain, compare_confine, compare_import, compare_read, compare_sound,
+    compare_test, compare_write,
 };
 
 use std::process::ExitCode;
@@ -43,7 +43,7 @@ pub struct Found {
 
 /// Compares the linked archive with the model, and prints what was compared or the first difference.
 pub fn command(seed: u64, requests: u64, inputs: u64) -> ExitCode {
-    eprintln!("differential: {requests} requests are compared with the model, then {inputs} images and inputs of confine");
+    eprintln!("differential: {requests} requests are compared with the model, then {inputs} images, imports and inputs of confine");
     let mut counts = Counts::default();
     let compared = compare_requests(&Archive, seed, requests, &mut counts)
         .and_then(|()| compare_inputs(&Archive, seed, inputs, &mut counts));
@@ -52,7 +52,9 @@ pub fn command(seed: u64, requests: u64, inputs: u64) -> ExitCode {
             println!(
                 "seed {seed}: {requests} requests, each lent and by value; {inputs} images read;"
             );
-            println!("{inputs} inputs of confine; the other calls after each {BETWEEN_SWEEPS} requests\n");
+            println!(
+                "{inputs} imports; {inputs} inputs of confine; the other calls after each {BETWEEN_SWEEPS} requests\n"
+            );
             println!("{counts}\nno difference");
             ExitCode::SUCCESS
         }
@@ -100,17 +102,19 @@ fn line_of(ask: &Ask) -> Line {
     }
 }
 
-/// Images that are read, and as many inputs of `confine`.
+/// Images that are read, as many imports, and as many inputs of `confine`.
 pub fn compare_inputs(
     calls: &impl Calls,
     seed: u64,
     inputs: u64,
     counts: &mut Counts,
 ) -> Result<(), Found> {
-    // Another seed than that of the requests, which does not depend on how many they are.
-    let mut rng = Rng::new(!seed);
-    let (mut images, mut sources) = (Source::images(), Source::confine_inputs());
-    let mut progress = Progress::new("differential: images and inputs of confine", inputs);
+    // Another seed than that of the requests, which does not depend on how many they are; and for imports one
+    // more, since nothing else hangs on them.
+    let (mut rng, mut apart) = (Rng::new(!seed), Rng::new(seed.rotate_left(32)));
+    let (mut images, mut imports) = (Source::images(), Source::imports());
+    let mut sources = Source::confine_inputs();
+    let mut progress = Progress::new("differential: images, imports, inputs of confine", inputs);
     for k in 0..inputs {
         progress.at(k);
         let found = |what: &'static str| {
@@ -123,6 +127,11 @@ pub fn compare_inputs(
         counts.add(
             Line::Read,
             compare_read(calls, &image).map_err(found("image"))?,
+        );
+        let import = imports.next(&mut apart);
+        counts.add(
+            Line::Import,
+            compare_import(calls, &import).map_err(found("import"))?,
         );
         let input = sources.next(&mut rng);
         let mut buffer = [0; 256];

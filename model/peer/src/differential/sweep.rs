@@ -1,16 +1,18 @@
-//! All calls but the step, on the table as it is and on tables that are aimed at each number.
+//! All calls but the step, on the table as it is and on tables and imports that are aimed at each number.
 
 use yavrinks_model::confinement::Entry;
 use yavrinks_model::table::Table;
-use yavrinks_tools::generate::{confinement_case, damaged_table, shown_case};
-use yavrinks_tools::generate::{ConfinementCase, Damage, CONFINEMENT_NUMBERS, SHOWN_NUMBERS};
+use yavrinks_tools::generate::{confinement_case, damaged_table, import_case, shown_case};
+use yavrinks_tools::generate::{ConfinementCase, Damage};
+use yavrinks_tools::generate::{CONFINEMENT_NUMBERS, IMPORT_NUMBERS, SHOWN_NUMBERS};
 use yavrinks_tools::rng::Rng;
 
 use super::counts::{Counts, Line};
 use super::course::put_anything;
 use super::draw::any_bytes;
 use super::facts::Compared;
-use super::wholes::{compare_access, compare_chain, compare_sound, compare_test, compare_write};
+use super::wholes::{compare_access, compare_chain, compare_import, compare_sound};
+use super::wholes::{compare_test, compare_write};
 use crate::archive::Calls;
 
 /// The calls on a whole table: the one given, and others that are aimed at each number.
@@ -38,6 +40,15 @@ pub fn sweep(
     };
     let buffer = any_bytes(rng, length as usize);
     counts.add(Line::Write, compare_write(calls, table, &buffer)?);
+    compare_imports(calls, &mut Rng::new(rng.clone().bits()), counts)
+}
+
+/// An import for each number. They have a generator of their own, since nothing else hangs on them.
+fn compare_imports(calls: &impl Calls, rng: &mut Rng, counts: &mut Counts) -> Compared<()> {
+    for aim in IMPORT_NUMBERS {
+        let bytes = import_case(rng, aim);
+        counts.add(Line::Import, compare_import(calls, &bytes)?);
+    }
     Ok(())
 }
 

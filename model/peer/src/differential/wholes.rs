@@ -1,5 +1,5 @@
 //! The calls on a whole table or on bytes: soundness, potential access, the confinement test, chains,
-//! images and what `confine` prints, each on the same input in the model and in the archive.
+//! images, imports and what `confine` prints, each on the same input in the model and in the archive.
 
 use captable::raw;
 use yavrinks_model::access::potential_access;
@@ -8,6 +8,7 @@ use yavrinks_model::confine::confine;
 use yavrinks_model::confinement::confinement_test;
 use yavrinks_model::image;
 use yavrinks_model::table::Table;
+use yavrinks_model::take_grant;
 use yavrinks_model::wire::decode_list;
 use yavrinks_tools::generate::printed_number;
 use yavrinks_tools::rows::rows;
@@ -180,6 +181,26 @@ pub fn compare_read(calls: &impl Calls, bytes: &[u8]) -> Compared<u8> {
     same(
         "captable_read",
         || Facts::new().bytes("image", bytes),
+        facts(number, &to_raw(&table), bytes),
+        facts(found.number, &found.table, &lent),
+    )?;
+    Ok(number)
+}
+
+/// Bringing in any bytes.
+pub fn compare_import(calls: &impl Calls, bytes: &[u8]) -> Compared<u8> {
+    let (number, table) = take_grant::import(bytes);
+    let mut lent = Box::<[u8]>::from(bytes);
+    let found = calls.import(&mut lent);
+    let facts = |number: u8, table: &raw::Table, bytes: &[u8]| {
+        Facts::new()
+            .number("number", number)
+            .table("table", table)
+            .bytes("import", bytes)
+    };
+    same(
+        "captable_import",
+        || Facts::new().bytes("import", bytes),
         facts(number, &to_raw(&table), bytes),
         facts(found.number, &found.table, &lent),
     )?;

@@ -55,6 +55,7 @@ fn function(call: Call) -> *const () {
         Call::Test => raw::captable_test as *const (),
         Call::Chain => raw::captable_chain as *const (),
         Call::Read => raw::captable_read as *const (),
+        Call::Import => raw::captable_import as *const (),
         Call::Write => raw::captable_write as *const (),
         Call::Confine => raw::captable_confine as *const (),
         Call::Version => raw::captable_version as *const (),
@@ -85,7 +86,7 @@ fn arguments(call: Call, sample: &Sample, places: &Places) -> Arguments {
     let (members, object) = (sample.members, ABOVE_A_BYTE | u64::from(sample.object));
     match call {
         Call::Step => [table, start, length, 0, 0],
-        Call::Stepped | Call::Read => [result, start, length, 0, 0],
+        Call::Stepped | Call::Read | Call::Import => [result, start, length, 0, 0],
         Call::Sound | Call::Version => [0; 5],
         Call::Access => [result, 0, 0, 0, 0],
         Call::Test => [members, start, length, 0, 0],
@@ -100,7 +101,7 @@ fn number(call: Call, registers: [u64; 2], result: &[u8]) -> u8 {
     match call {
         Call::Step | Call::Sound | Call::Write => registers[0] as u8,
         Call::Test => registers[1] as u8,
-        Call::Stepped | Call::Access | Call::Read => result[NUMBER_AT],
+        Call::Stepped | Call::Access | Call::Read | Call::Import => result[NUMBER_AT],
         Call::Chain => result[CHAIN_NUMBER_AT],
         Call::Confine => {
             let count = usize::try_from(registers[0]).map_or(0, |count| count.min(256));

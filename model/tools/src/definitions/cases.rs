@@ -10,6 +10,7 @@ use yavrinks_model::image::{read, write};
 use yavrinks_model::runs::{clean_at_start, clean_part, run, CleanPart};
 use yavrinks_model::step::{step, Code, Request};
 use yavrinks_model::table::Table;
+use yavrinks_model::take_grant::import;
 use yavrinks_model::wire;
 
 /// What is asked of the clean objects along a run.
@@ -55,6 +56,10 @@ pub enum Question {
     Write {
         table: Table,
         buffer: Vec<u8>,
+    },
+    /// The table that a take-and-grant table becomes.
+    Import {
+        bytes: Vec<u8>,
     },
     /// Which request bytes are.
     RequestBytes {
@@ -110,6 +115,7 @@ const LEAST_CHAIN: &str = "least chain";
 const ACCESS: &str = "potential access";
 const READ: &str = "image read";
 const WRITTEN: &str = "image written";
+const IMPORT: &str = "import";
 const REQUEST_BYTES: &str = "request as bytes";
 const LIST_BYTES: &str = "list as bytes";
 
@@ -118,7 +124,7 @@ pub fn subjects() -> Vec<String> {
     let mut subjects = vec![CLEAN.to_string()];
     subjects.extend(Code::ALL.map(Code::label));
     let wholes = [UNKNOWN, RUN, TEST, CHAIN, LEAST_CHAIN, ACCESS];
-    let bytes = [READ, WRITTEN, REQUEST_BYTES, LIST_BYTES];
+    let bytes = [READ, WRITTEN, IMPORT, REQUEST_BYTES, LIST_BYTES];
     subjects.extend(wholes.into_iter().chain(bytes).map(String::from));
     subjects
 }
@@ -130,10 +136,7 @@ impl Question {
             Question::Clean {
                 start, requests, ..
             } => clean_answer(start, requests),
-            Question::Step { table, request } => {
-                let (reply, after) = step(table, request);
-                Answer::Table(reply, after)
-            }
+            Question::Step { table, request } => table_answer(step(table, request)),
             Question::Run { table, requests } => {
                 let (replies, after) = run(table, requests);
                 Answer::Run(replies, after)
@@ -151,15 +154,13 @@ impl Question {
                 let (number, access) = potential_access(table);
                 Answer::Rows(number, rows(&access))
             }
-            Question::Read { image } => {
-                let (number, table) = read(image);
-                Answer::Table(number, table)
-            }
+            Question::Read { image } => table_answer(read(image)),
             Question::Write { table, buffer } => {
                 let mut written = buffer.clone();
                 let number = write(table, &mut written);
                 Answer::Buffer(number, written)
             }
+            Question::Import { bytes } => table_answer(import(bytes)),
             Question::RequestBytes { bytes } => Answer::Ask(wire::decode(bytes)),
             Question::ListBytes { bytes } => Answer::Entries(wire::decode_list(bytes)),
         }
@@ -180,6 +181,7 @@ impl Question {
             Question::Access { .. } => ACCESS,
             Question::Read { .. } => READ,
             Question::Write { .. } => WRITTEN,
+            Question::Import { .. } => IMPORT,
             Question::RequestBytes { .. } => REQUEST_BYTES,
             Question::ListBytes { .. } => LIST_BYTES,
         };
@@ -202,6 +204,10 @@ impl Answer {
             Answer::Clean(..) | Answer::Ask(_) | Answer::Entries(_) => 0,
         }
     }
+}
+
+fn table_answer((number, table): (u8, Table)) -> Answer {
+    Answer::Table(number, table)
 }
 
 fn clean_answer(start: &ConfinementCase, requests: &[Request]) -> Answer {

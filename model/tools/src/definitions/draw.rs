@@ -4,11 +4,12 @@
 use super::cases::Question;
 use super::clean::clean_run;
 use crate::generate::{
-    any_damage, any_sound_table, can_meet, confinement_case, image_case, layered_case,
-    likely_request, shown_case, sound_table, step_case, Shape, StepCase, CONFINEMENT_NUMBERS,
-    IMAGE_NUMBERS, SHOWN_NUMBERS,
+    any_damage, any_sound_table, can_meet, confinement_case, full_import, image_case, import_case,
+    layered_case, likely_request, shown_case, sound_table, step_case, Shape, StepCase,
+    CONFINEMENT_NUMBERS, IMAGE_NUMBERS, IMPORT_NUMBERS, SHOWN_NUMBERS,
 };
 use crate::rng::Rng;
+use crate::shared::shared_imports;
 use yavrinks_model::image::IMAGE_LENGTH;
 use yavrinks_model::step::{step, step_in_place, Code, Request};
 use yavrinks_model::table::{Capability, ALL_RIGHTS, RD, TX, WK};
@@ -20,8 +21,10 @@ pub struct Counts {
     /// Runs of which the clean objects are asked.
     pub runs: usize,
     /// How often everything else is asked: every reply of every code, every number of the test, of a
-    /// chain, of reading and of writing, and some of all else.
+    /// chain, of reading, of writing and of an import, and some of all else.
     pub rounds: usize,
+    /// How many of the shared imports are asked, from the first on.
+    pub imports: usize,
 }
 
 impl Default for Counts {
@@ -29,6 +32,7 @@ impl Default for Counts {
         Counts {
             runs: 24,
             rounds: 1,
+            imports: 0,
         }
     }
 }
@@ -39,7 +43,7 @@ type Draw = fn(&mut Rng, usize) -> Question;
 /// All questions of a run. Each kind has a generator of its own, so that the number of one kind
 /// does not change the questions of another.
 pub fn questions(seed: u64, counts: &Counts) -> Vec<Question> {
-    let in_a_round: [(usize, Draw); 11] = [
+    let in_a_round: [(usize, Draw); 12] = [
         (aims().len(), aimed_step),
         (3, telling_step),
         (4, run),
@@ -51,6 +55,7 @@ pub fn questions(seed: u64, counts: &Counts) -> Vec<Question> {
         (6, list_bytes),
         (12, chain),
         (WIDTHS.len(), least_chain),
+        (12, import),
     ];
     let rounds = in_a_round.map(|(count, draw)| (counts.rounds * count, draw));
     let mut seeds = Rng::new(seed);
@@ -59,6 +64,8 @@ pub fn questions(seed: u64, counts: &Counts) -> Vec<Question> {
         let mut rng = Rng::new(seeds.bits());
         questions.extend((0..count).map(|turn| draw(&mut rng, turn)));
     }
+    let shared = shared_imports().into_iter().take(counts.imports);
+    questions.extend(shared.map(|bytes| Question::Import { bytes }));
     questions
 }
 
@@ -263,4 +270,13 @@ const WIDTHS: [&[usize]; 4] = [&[3, 3, 3], &[4, 4], &[4, 3, 4, 3], &[2, 3, 2, 3,
 
 fn least_chain(rng: &mut Rng, turn: usize) -> Question {
     Question::LeastChain(layered_case(rng, WIDTHS[turn % WIDTHS.len()]))
+}
+
+/// A table that is full, then every number in turn.
+fn import(rng: &mut Rng, turn: usize) -> Question {
+    let bytes = match turn % 12 {
+        0 => full_import(rng),
+        place => import_case(rng, IMPORT_NUMBERS[place % IMPORT_NUMBERS.len()]),
+    };
+    Question::Import { bytes }
 }

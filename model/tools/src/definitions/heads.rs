@@ -2,7 +2,14 @@
 //! values of the model.
 
 /// The crates that the statements are about. What these stand on comes with them.
-pub const CRATES: [&str; 5] = ["isolation", "chains", "image_out", "wire", "entries"];
+pub const CRATES: [&str; 6] = [
+    "isolation",
+    "chains",
+    "image_out",
+    "take_grant",
+    "wire",
+    "entries",
+];
 
 pub const HEAD: &str = "\
 -- Answers of the model, which the definitions have to give too.
@@ -30,6 +37,8 @@ use Rattle.chains.specs.Answers.{chainNumber, chainOf}
 use Rattle.image.specs.declared.Loaded.{Loaded}
 use Rattle.image.specs.Images.{readNumber, readOf}
 use Rattle.image_out.specs.Written.{writeNumber, writeRefusal, writtenOf}
+use Rattle.take_grant.specs.declared.Imported.{Imported}
+use Rattle.take_grant.specs.Imports.{importNumber, importOf}
 use Rattle.wire.specs.Wires.{askFrom}
 use Rattle.entries.specs.Entries.{entriesIn}
 use Rattle.isolation.specs.Clean.{cleanAtStart, cleanAtEnd, cleanRequests, cleanReplies}
@@ -63,4 +72,7 @@ related a = (accessNumber (a .reply), a .rows)
 
 abbrev loaded : Loaded → ℕ × Table
 loaded l = (readNumber (l .reply), l .table)
+
+abbrev imported : Imported → ℕ × Table
+imported i = (importNumber (i .reply), i .table)
 ";

@@ -39,6 +39,7 @@ impl Options {
                 "--seed" => options.seed = number(name, value)?,
                 "--runs" => options.counts.runs = number(name, value)?,
                 "--rounds" => options.counts.rounds = number(name, value)?,
+                "--imports" => options.counts.imports = number(name, value)?,
                 "--keep" => options.keep = Some(value.into()),
                 "--root" => options.root = value.into(),
                 _ => return Err(format!("unknown option {name}")),

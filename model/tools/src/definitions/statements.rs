@@ -90,6 +90,9 @@ impl Writer<'_> {
                 let buffer = self.bytes("buffer", buffer);
                 format!("writeNumber (writeRefusal {table} {buffer}), writtenOf {table} {buffer}")
             }
+            Question::Import { bytes } => {
+                format!("imported (importOf {})", self.bytes("bytes", bytes))
+            }
             Question::RequestBytes { bytes } => format!("askFrom {}", self.bytes("bytes", bytes)),
             Question::ListBytes { bytes } => format!("entriesIn {}", self.bytes("bytes", bytes)),
         }

@@ -6,10 +6,11 @@ use crate::rng::Rng;
 use std::mem::discriminant;
 use yavrinks_model::runs::CleanPart;
 use yavrinks_model::step::Request;
-use yavrinks_model::table::Table;
+use yavrinks_model::table::{Table, ACTIVE, ALIVE};
 
 /// For every kind of question, a case with a wrong number and one with a right number and wrong
-/// content, as far as the given cases have such; of clean objects, one for each part that is asked.
+/// content, as far as the given cases have such; of clean objects, one for each part that is asked; of
+/// imports also one that is refused and yet brings something in.
 pub fn wrong_cases(rng: &mut Rng, cases: &[Case]) -> Vec<Case> {
     let mut wrong = Vec::new();
     let mut seen = Vec::new();
@@ -37,8 +38,21 @@ fn made_wrong(rng: &mut Rng, case: &Case) -> Vec<Case> {
                 .collect()
         }
         answer if answer.number() == 0 => vec![with_answer(case, other_content(rng, answer))],
-        answer => vec![with_answer(case, other_number(answer))],
+        answer => {
+            let mut wrong = vec![with_answer(case, other_number(answer))];
+            if let Question::Import { .. } = case.question {
+                wrong.push(with_answer(case, half_imported(answer.number())));
+            }
+            wrong
+        }
     }
+}
+
+/// A refusal that leaves the first entity in the table.
+fn half_imported(number: u8) -> Answer {
+    let mut table = Table::unborn();
+    (table.records[0].status, table.records[0].kind) = (ALIVE, ACTIVE);
+    Answer::Table(number, table)
 }
 
 fn with_answer(case: &Case, answer: Answer) -> Case {

@@ -1,9 +1,10 @@
-//! Random tables, requests, tests, questions for a chain, images and inputs, each aimed at a chosen
-//! outcome.
+//! Random tables, requests, tests, questions for a chain, images, inputs and imports, each aimed at a
+//! chosen outcome.
 //! All of it follows from the seed of the generator that is lent to it.
 
 mod confinement;
 mod images;
+mod imports;
 mod requests;
 mod shown;
 mod tables;
@@ -13,6 +14,7 @@ pub use images::{
     confine_input, encode_input, image_case, printed_number, CONFINE_NUMBERS, IMAGE_NUMBERS,
     INPUT_COUNT_AT,
 };
+pub use imports::{full_import, import_bytes, import_case, IMPORT_NUMBERS};
 pub use requests::{
     actor_mut, any_request, bounded_fields, can_meet, likely_request, step_case, StepCase,
 };

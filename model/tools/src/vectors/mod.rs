@@ -5,6 +5,7 @@ mod chain;
 mod digest;
 mod edges;
 mod images;
+mod imports;
 mod layout;
 mod links;
 mod relations;
@@ -20,6 +21,7 @@ use crate::progress::Progress;
 pub use chain::{chain, Chain};
 pub use edges::edges;
 pub use images::{image_cases, write_cases, ImageCase, WriteCase};
+pub use imports::import_cases;
 pub use links::test_reach;
 pub use relations::access_cases;
 pub use shown::shown_cases;
@@ -67,7 +69,7 @@ impl Part {
 }
 
 /// What makes each part, in the order in which the program runs them.
-const MAKERS: [fn() -> Part; 10] = [
+const MAKERS: [fn() -> Part; 11] = [
     images::part,
     images::writes_part,
     steps::part,
@@ -78,6 +80,7 @@ const MAKERS: [fn() -> Part; 10] = [
     relations::part,
     links::part,
     shown::part,
+    imports::part,
 ];
 
 /// All parts, in that order.

@@ -1,4 +1,5 @@
 //! Table K of document 01.
+#![allow(dead_code)] // each test is a program of its own and uses some of this
 
 use captable::{Capability, Set, Table, ACTIVE, ALIVE, RD, WK, WR};
 
