@@ -11,6 +11,7 @@ pub record Cap : Type 0 where
   pub entity : ℕ
   pub rights : ℕ
 
+-- 001: "types entity = cap set"
 abbrev pub Entity : Type 0
 Entity = List Cap
 

@@ -43,9 +43,11 @@ tableOf es = record { records = tabulate 64 (recordFor es); slots = tabulate 512
 abbrev pub refusedImport : ImportReply → Imported
 refusedImport why = record { reply = why; table = unbornTable }
 
+-- what is given back for what the walk found
 abbrev pub imported : Found (List Entity) → Imported
 imported (found es rest) = record { reply = R.Done; table = tableOf es }
 imported (stopped why) = refusedImport why
 
+-- the import: bytes in, reply and table out
 unfoldable pub importOf : List ℕ → Imported
 importOf bytes = imported (walkOf bytes)

@@ -15,6 +15,7 @@ pub data Found (A : Type 0) : Type 0 where
   found : A → List ℕ → Found A
   stopped : ImportReply → Found A
 
+-- what comes next, unless the walk has stopped
 abbrev pub andThen : {A B : Type 0} → Found A → (A → List ℕ → Found B) → Found B
 andThen (found x rest) next = next x rest
 andThen (stopped why) next = stopped why
