@@ -1,15 +1,15 @@
 /*
  * A small main loop over the capability table: load an image, serve the mailboxes, test a newly loaded
- * subsystem and say how it gets at an object, judge a table of an older rig by the same test, write the image
- * back.
+ * subsystem and say how it gets at an object, test a routine that reads more objects than a list has room for,
+ * judge a table of an older rig by the same test, write the image back.
  *
  *     firmware IMAGE NEW_IMAGE
  *
  * Each object has a mailbox, and its routine puts requests there. Whose mailbox it is, is all that is known
  * of who asks; what the routine wrote of that is not believed. The requests are those of document 01's
  * examples 6, 7, 9 and 10 on its Table K, one that lies about its actor, and one that is no request at all.
- * Exit status: 0, or 1 when a file cannot be used, the table is refused, or the library is of another
- * version.
+ * Exit status: 0, or 1 when a file cannot be used, the table is refused, a test is not answered as it should
+ * be, or the library is of another version.
  */
 #include "captable.h"
 
@@ -125,22 +125,23 @@ static int load(const char *path)
 static const uint64_t members = (uint64_t)1 << 5 | (uint64_t)1 << 10;
 static const uint8_t list[2] = {1, CAPTABLE_WR};
 
-/* Tests a subsystem of a table, which may hold the one entry. */
-static int admit(const char *who, const captable_table *in, uint64_t set, const uint8_t entry[2])
+/* Tests a subsystem of a table with a list, prints the answer and gives its number. Whatever is not accepted is
+ * not loaded. */
+static uint8_t admit(const char *who, const captable_table *in, uint64_t set, const uint8_t *listed, size_t length)
 {
-    captable_finding finding = captable_test(*in, set, entry, 2);
+    captable_finding finding = captable_test(*in, set, listed, length);
     unsigned n;
 
     if (finding.number != CAPTABLE_DONE) {
-        fprintf(stderr, "%s refused %u, %s\n", who, finding.number, captable_reason(finding.number));
-        return 1;
+        printf("%s refused %u, %s\n", who, finding.number, captable_reason(finding.number));
+        return finding.number;
     }
-    printf("%s accepted; it can influence:", who);
+    printf("%s accepted; it can influence:%s", who, finding.bound == 0 ? " nothing" : "");
     for (n = 0; n < CAPTABLE_OBJECTS; n++)
         if (finding.bound >> n & 1)
             printf(" %u", n);
     printf("\n");
-    return 0;
+    return CAPTABLE_DONE;
 }
 
 /* The technician sees an object in the bound and asks how it got there. */
@@ -158,6 +159,29 @@ static int explain(uint8_t object)
         printf(" %u", shown.numbers[k]);
     printf("\n");
     return 0;
+}
+
+/* A maker's routine, the objects 0 to 2, reads 24 material tables, the objects 3 to 26, each through wk alone.
+ * That needs no entry, so the list is empty. With rd beside wk over one of them it would need both listed. */
+static int read_materials(void)
+{
+    static captable_table rig;
+    const uint64_t routine = 7; /* bits 0, 1 and 2 */
+    size_t k;
+
+    for (k = 0; k < 27; k++) {
+        rig.records[k].status = CAPTABLE_ALIVE;
+        rig.records[k].kind = k < 3 ? CAPTABLE_ACTIVE : CAPTABLE_PASSIVE;
+    }
+    for (k = 0; k < 24; k++) {
+        captable_capability *slot = captable_slot_at(&rig, k / CAPTABLE_SLOTS, k % CAPTABLE_SLOTS);
+        slot->target = (uint8_t)(3 + k);
+        slot->rights = CAPTABLE_WK;
+    }
+    if (admit("the routine with 24 material tables", &rig, routine, NULL, 0) != CAPTABLE_DONE)
+        return 1;
+    captable_slot_at(&rig, 2, 7)->rights = CAPTABLE_RD | CAPTABLE_WK;
+    return admit("the routine with rd and wk over one", &rig, routine, NULL, 0) != CAPTABLE_RIGHT_UNLISTED;
 }
 
 /* The take-and-grant table of an older rig. */
@@ -181,7 +205,7 @@ static int bring_in(void)
         fprintf(stderr, "import refused %u, %s\n", outcome.number, captable_reason(outcome.number));
         return 1;
     }
-    return admit("the older rig's routine", &outcome.table, (uint64_t)1 << 1, entry);
+    return admit("the older rig's routine", &outcome.table, (uint64_t)1 << 1, entry, sizeof entry) != CAPTABLE_DONE;
 }
 
 /* Writes the image back. */
@@ -226,7 +250,9 @@ int main(int count, char **words)
     ask_again();
     serve();
     printf("3's word is %lu\n", (unsigned long)table.records[3].word);
-    if (admit("subsystem", &table, members, list) != 0 || explain(2) != 0 || bring_in() != 0)
+    if (admit("subsystem", &table, members, list, sizeof list) != CAPTABLE_DONE || explain(2) != 0)
+        return 1;
+    if (read_materials() != 0 || bring_in() != 0)
         return 1;
     return save(words[2]);
 }

@@ -2,7 +2,7 @@
  * captable.h: the proved capability table for firmware in C and C++.
  *
  * The table is one fixed table of 64 objects with eight capabilities each. Its rules are document 01's,
- * with requests 2.1 and 2.2 of document 02, and every answer is a number of theirs: 0 for done, or why not
+ * with requests 2.1 to 2.3 of document 02, and every answer is a number of theirs: 0 for done, or why not
  * (enum captable_number).
  *
  * Link with libcaptable.a, which `rt staticlib captable` proves and writes. It needs memcpy and memset
@@ -68,9 +68,9 @@ extern "C" {
 
 /* ---- version -------------------------------------------------------------------------------------- */
 
-/* The version of the calls, 0.3.0: the first number times 65,536, the second times 256, and the third.
+/* The version of the calls, 0.4.0: the first number times 65,536, the second times 256, and the third.
  * captable_version gives that of the archive. Compare the two at start. */
-#define CAPTABLE_VERSION 768
+#define CAPTABLE_VERSION 1024
 
 /* ---- sizes ---------------------------------------------------------------------------------------- */
 
@@ -80,7 +80,7 @@ extern "C" {
 #define CAPTABLE_IMPORT_BYTES 1092 /* the longest import: 64 entities with eight capabilities each */
 #define CAPTABLE_REQUEST_BYTES 22  /* the longest request: an allocate with four pairs */
 #define CAPTABLE_PAIRS 4           /* the most pairs in the list of a send or an allocate */
-#define CAPTABLE_ENTRIES 8         /* the most entries in the list of a test */
+#define CAPTABLE_ENTRIES 8         /* the most entries in the list of a test; wk alone needs none */
 #define CAPTABLE_LINKS 63          /* the most links of a chain, and so the most numbers in it */
 #define CAPTABLE_PRINTED 256       /* the buffer of captable_confine */
 
@@ -122,7 +122,8 @@ enum captable_status { CAPTABLE_UNBORN = 0, CAPTABLE_ALIVE = 1, CAPTABLE_DEAD = 
 /* The kind of an object. Only an active one makes requests and can be sent to. */
 enum captable_kind { CAPTABLE_PASSIVE = 0, CAPTABLE_ACTIVE = 1 };
 
-/* Rights add up. wk is the weak right: reading that passes on nothing stronger than itself. */
+/* Rights add up. wk is the weak right: reading that passes on nothing stronger than itself. Who holds wk alone
+ * influences nobody by it, and captable_test asks for no entry for it. */
 enum captable_right { CAPTABLE_RD = 1, CAPTABLE_WR = 2, CAPTABLE_WK = 4, CAPTABLE_TX = 8 };
 
 /* The code of a request, its first byte. */
@@ -156,7 +157,7 @@ enum captable_number {
     CAPTABLE_NOT_IN_STOCK = 9,          /* the number or the part of an allocate is outside the actor's stock */
     CAPTABLE_MEMBERS_INVALID = 10,      /* test: no member, or one that is not alive */
     CAPTABLE_LIST_INVALID = 11,         /* test: a list too long, no list, or an entry that is no right over a born non-member */
-    CAPTABLE_RIGHT_UNLISTED = 12,       /* test: a member holds a right over a non-member that is not listed */
+    CAPTABLE_RIGHT_UNLISTED = 12,       /* test: a member holds a right over a non-member that is not listed; a capability with wk alone needs no entry */
     CAPTABLE_MEMBER_HELD = 13,          /* test: a non-member holds a capability naming a member */
     CAPTABLE_LENGTH_WRONG = 14,         /* reading: not 1,923 bytes, or the length field says otherwise */
     CAPTABLE_VERSION_WRONG = 15,        /* reading: the version byte is not 1 */
@@ -198,7 +199,7 @@ static inline const char *captable_reason(uint8_t number)
     case CAPTABLE_LIST_INVALID:
         return "the list is too long, or an entry is invalid";
     case CAPTABLE_RIGHT_UNLISTED:
-        return "a member holds a right that is not listed";
+        return "a member holds a right that is not listed; a capability with wk alone needs no entry";
     case CAPTABLE_MEMBER_HELD:
         return "a non-member holds a capability naming a member";
     case CAPTABLE_LENGTH_WRONG:
@@ -260,7 +261,8 @@ typedef struct captable_relation {
 } captable_relation;
 
 /* What the confinement test found. `bound` is the set of non-members that the members can ever
- * influence, bit n for object n; it is empty on every refusal. */
+ * influence, bit n for object n; it is empty on every refusal. It is worked from the list, and not from what
+ * the members hold. An entry with wk alone adds nothing to it. */
 typedef struct captable_finding {
     uint64_t bound;
     uint8_t number;
@@ -346,9 +348,19 @@ CAPTABLE_ANSWER captable_outcome captable_step_by_value(captable_table table, co
 CAPTABLE_ANSWER captable_relation captable_access(captable_table table);
 
 /*
- * The confinement test: which objects can a set of members, bit n for object n, ever influence, if they
- * hold no more over non-members than the list has? Each entry of the list is two bytes: target, rights.
- * Bytes of odd length are no list and get 11.
+ * The confinement test: which objects can a set of members, bit n for object n, ever influence, if over
+ * non-members they hold no more than the list has, wk alone not counted? Each entry of the list is two bytes:
+ * target, rights. Bytes of odd length are no list and get 11.
+ *
+ * What needs an entry: a member's capability to a non-member, unless its rights are exactly wk (CAPTABLE_WK, 4).
+ * Every right of it has to be listed for its target, in one entry or in several, or the number is 12. Beside
+ * another right wk has to be listed too: rights 5 need rd and wk, rights 6 wr and wk, rights 12 wk and tx.
+ *
+ * What needs none: a capability with rights exactly wk. A routine may read dozens of objects through wk alone,
+ * with an empty list; the test says whom members influence, and not what they read. An entry with wk alone is
+ * allowed all the same: it takes one of the eight places, and the bound is the same with it and without it.
+ *
+ * A capability that names a member and is held by a non-member is 13 whatever its rights are, wk alone too.
  */
 CAPTABLE_ANSWER captable_finding captable_test(captable_table table, uint64_t members, const uint8_t *list,
                                                size_t length);
@@ -358,6 +370,7 @@ CAPTABLE_ANSWER captable_finding captable_test(captable_table table, uint64_t me
  * of links to it from the stand-in, which is in the place of all members and holds exactly the list; among
  * chains of one length it is the one whose numbers come first, compared from the stand-in's end. A link is one
  * capability that a non-member holds or that is listed: rd, wr and tx lead either way, wk from target to holder.
+ * So what a member holds without an entry, which is wk alone, is no link.
  *
  * Members and list are those of captable_test, whose refusals come first. Then the number is 18 for an object
  * above 63, unborn or a member, and 19 for one outside the bound.

@@ -1,10 +1,11 @@
 //! The confinement test: whether a set of members is confined to a list, and to which bound.
 //! All members are replaced by one stand-in, a point after the 64 numbers, that holds the list.
+//! A member's capability with wk alone needs no entry, as 2.3 of document 02 has it.
 
 use crate::access::Relation;
 use crate::refusal::Refusal;
 use crate::set;
-use crate::table::{Table, ALL_RIGHTS, OBJECTS};
+use crate::table::{Capability, Table, ALL_RIGHTS, OBJECTS, WK};
 
 /// The largest number of entries in a list.
 pub const MAX_ENTRIES: usize = 8;
@@ -36,7 +37,7 @@ fn check(table: &Table, members: u64, list: &[Entry]) -> Result<(), Refusal> {
     if !list_is_valid(table, members, list) {
         return Err(Refusal::ListInvalid);
     }
-    if !members_hold_only_listed_rights(table, members, list) {
+    if !members_hold_only_what_passes(table, members, list) {
         return Err(Refusal::RightNotListed);
     }
     if !members_are_unnamed_outside(table, members) {
@@ -55,18 +56,22 @@ fn list_is_valid(table: &Table, members: u64, list: &[Entry]) -> bool {
 }
 
 /// The rights listed for a target: the union over its entries.
-fn listed_rights(list: &[Entry], target: u8) -> u8 {
+pub fn listed_rights(list: &[Entry], target: u8) -> u8 {
     list.iter()
         .filter(|entry| entry.0 == target)
         .fold(0, |union, entry| union | entry.1)
 }
 
-fn members_hold_only_listed_rights(table: &Table, members: u64, list: &[Entry]) -> bool {
+/// Whether a capability that a member holds to a non-member passes: its rights are exactly wk, or each
+/// of them is listed for its target. Beside any other right, wk has to be listed too.
+pub fn passes(list: &[Entry], held: Capability) -> bool {
+    held.rights == WK || held.rights & !listed_rights(list, held.target) == 0
+}
+
+fn members_hold_only_what_passes(table: &Table, members: u64, list: &[Entry]) -> bool {
     set::numbers(members).all(|member| {
-        table.record(member).capabilities().all(|held| {
-            set::contains(members, held.target)
-                || held.rights & !listed_rights(list, held.target) == 0
-        })
+        let mut capabilities = table.record(member).capabilities();
+        capabilities.all(|held| set::contains(members, held.target) || passes(list, held))
     })
 }
 
@@ -79,7 +84,8 @@ fn members_are_unnamed_outside(table: &Table, members: u64) -> bool {
     })
 }
 
-/// The set of non-members influenced by the stand-in. No record of a member is read.
+/// The set of non-members influenced by the stand-in. No record of a member is read: what passes
+/// unlisted adds nothing.
 fn bound(table: &Table, members: u64, list: &[Entry]) -> u64 {
     let mut relation = Relation::<POINTS>::none();
     for n in set::numbers(!members) {

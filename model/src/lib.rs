@@ -13,7 +13,7 @@
 //! | Two runs | `runs`: a run, the clean objects along it, their requests and replies |
 //! | Why something is turned down | `refusal`: numbers; each check is where it refuses |
 //! | The stored image | `image`: reading, writing; `confine`: the program |
-//! | Table K and twelve examples | `table`: `Table::k`; `tests/examples.rs` |
+//! | Table K and twelve examples | `table`: `Table::k`; `tests/examples.rs`, example 2 as 2.3 amends it |
 //! | What every contract owes | none: it is about proofs |
 //! | Where earlier tables went astray | `tests/sentences.rs`, a test each |
 //! | Forms for parts of the code | none: it is about the proved code |
@@ -24,6 +24,7 @@
 //! |---|---|
 //! | 2.1 Show me the chain | `chain`: checks, links, the shortest chain that comes first |
 //! | 2.2 Bring in take-and-grant tables | `take_grant`: checks, the walk over the entities, what rights become |
+//! | 2.3 Weak capabilities need no entry | `confinement`: `passes`, the amended refusal 12 |
 //!
 //! Beside these, `links` leads to the bound a second way, as the proved code has it too: what can be
 //! reached from the holder of the list, link by link. Of requests and lists as bytes document 01 says no

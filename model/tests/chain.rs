@@ -1,5 +1,8 @@
 //! Document 02, 2.1, sentence by sentence, each on a small table.
 
+mod held;
+
+use held::{table_with, Held};
 use yavrinks_model::chain::chain;
 use yavrinks_model::confinement::{confinement_test, Entry};
 use yavrinks_model::set;
@@ -9,22 +12,9 @@ use yavrinks_model::table::{ALIVE, ALL_RIGHTS, DEAD, RD, SLOTS, TX, UNBORN, WK, 
 /// The member of most tests here. It holds nothing unless a test says so.
 const MEMBER: u8 = 60;
 
-/// A capability as (holder, target, rights).
-type Held = (u8, u8, u8);
-
-/// A table with the member, all holders and all targets alive. Each capability is in the lowest slot
-/// that is left.
+/// A table with the member, all holders and all targets alive.
 fn table_of(held: &[Held]) -> Table {
-    let mut table = Table::unborn();
-    table.record_mut(MEMBER).status = ALIVE;
-    for &(holder, target, rights) in held {
-        table.record_mut(target).status = ALIVE;
-        table.record_mut(holder).status = ALIVE;
-        let mut slots = table.record_mut(holder).slots.iter_mut();
-        let slot = slots.find(|slot| slot.is_empty()).expect("empty slot");
-        *slot = Capability::new(target, rights);
-    }
-    table
+    table_with(&[MEMBER], held)
 }
 
 /// What is shown of an object where the member is alone and the list is `list`.

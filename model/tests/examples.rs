@@ -1,4 +1,4 @@
-//! The twelve examples of document 01, each asserted in full.
+//! The twelve examples of document 01, each asserted in full; example 2 as 2.3 of document 02 amends it.
 //! All start from table K.
 
 use yavrinks_model::access::potential_access;
@@ -84,6 +84,7 @@ fn example_02_weak_right_has_empty_bound() {
     let mut table = Table::k();
     table.records[5].slots[0] = Capability::new(1, WK);
     assert_test(&table, &[5], &[(1, WK)], 0, &[]);
+    assert_test(&table, &[5], &[], 0, &[]);
 }
 
 #[test]

@@ -1,108 +1,36 @@
 //! The test vectors in `vectors/`: steps, potential access, tests, inputs of `confine`, chains and
 //! imports.
-//! Every line of every file is compared in full.
+//! Every line of every file is compared in full. Where a later request amends a line of the base, the line
+//! is named here, and what it says now is worked in another way.
 
-mod json;
+mod lines;
 
 use std::fs;
 use std::path::PathBuf;
 
-use json::Json;
+use lines::{
+    byte, byte_or_zero, bytes, field, hexadecimal, index, number, number_set, pairs, table,
+};
+use lines::{Json, TestLine};
 use yavrinks_model::access::{potential_access, Access};
 use yavrinks_model::chain::chain;
 use yavrinks_model::confine::confine;
 use yavrinks_model::confinement::confinement_test;
 use yavrinks_model::set;
 use yavrinks_model::step::{step, step_in_place, Code, Fields, Request};
-use yavrinks_model::table::{Capability, Record, Table};
+use yavrinks_model::table::{Capability, Table, WK};
 use yavrinks_model::take_grant::import;
 
 fn vectors() -> PathBuf {
     PathBuf::from(env!("CARGO_MANIFEST_DIR")).join("vectors")
 }
 
-/// The values of a file that holds one JSON value a line.
-fn lines(file: &str) -> Vec<Json> {
+/// The values of a file that holds one JSON value a line, which must be so many.
+fn values(file: &str, count: usize) -> Vec<Json> {
     let text = fs::read_to_string(vectors().join(file)).expect("vector file");
-    text.lines()
-        .map(|line| Json::parse(line).expect("JSON"))
-        .collect()
-}
-
-fn field<'a>(value: &'a Json, key: &str) -> &'a Json {
-    value.get(key).unwrap_or_else(|| panic!("field {key}"))
-}
-
-fn number(value: &Json) -> u64 {
-    value.as_number().expect("number")
-}
-
-fn byte(value: &Json) -> u8 {
-    u8::try_from(number(value)).expect("byte")
-}
-
-/// A byte that is 0 where it is missing.
-fn byte_or_zero(value: &Json, key: &str) -> u8 {
-    value.get(key).map_or(0, byte)
-}
-
-fn bytes(value: &Json) -> Vec<u8> {
-    value.as_list().expect("list").iter().map(byte).collect()
-}
-
-/// Bytes that are written as hexadecimal digits.
-fn hexadecimal(value: &Json) -> Vec<u8> {
-    let digits = value.as_text().expect("digits");
-    (0..digits.len())
-        .step_by(2)
-        .map(|at| u8::from_str_radix(&digits[at..at + 2], 16).expect("byte"))
-        .collect()
-}
-
-fn number_set(value: &Json) -> u64 {
-    set::of(bytes(value))
-}
-
-fn pair(value: &Json) -> (u8, u8) {
-    match value.as_list() {
-        Some([first, second]) => (byte(first), byte(second)),
-        _ => panic!("a pair was expected"),
-    }
-}
-
-fn pairs(value: &Json) -> Vec<(u8, u8)> {
-    value.as_list().expect("list").iter().map(pair).collect()
-}
-
-fn index(key: &str) -> usize {
-    key.parse().expect("number as key")
-}
-
-fn record(value: &Json) -> Record {
-    let known = ["status", "kind", "word", "stock", "slots"];
-    for key in value.as_object().expect("record").keys() {
-        assert!(known.contains(&key.as_str()), "field {key} in a record");
-    }
-    let mut record = Record::UNBORN;
-    record.status = byte_or_zero(value, "status");
-    record.kind = byte_or_zero(value, "kind");
-    record.word = u32::try_from(value.get("word").map_or(0, number)).expect("word");
-    record.stock = value.get("stock").map_or(0, number_set);
-    if let Some(slots) = value.get("slots") {
-        for (key, slot) in slots.as_object().expect("slots") {
-            let (target, rights) = pair(slot);
-            record.slots[index(key)] = Capability::new(target, rights);
-        }
-    }
-    record
-}
-
-fn table(value: &Json) -> Table {
-    let mut table = Table::unborn();
-    for (key, value) in value.as_object().expect("table") {
-        table.records[index(key)] = record(value);
-    }
-    table
+    let values = lines::values(&text);
+    assert_eq!(values.len(), count, "{file}");
+    values
 }
 
 /// A request has the fields that its code has, and no others.
@@ -126,59 +54,104 @@ fn request(value: &Json) -> Request {
     })
 }
 
-#[test]
-fn steps() {
-    let lines = lines("steps.jsonl");
-    assert_eq!(lines.len(), 360);
-    for (line, value) in lines.iter().enumerate() {
-        let before = table(field(value, "table"));
-        let request = request(field(value, "request"));
-        let reply = byte(field(value, "reply"));
-        let after = match field(value, "after") {
+/// Compares a file of steps, in both forms of the step.
+fn expect_steps(file: &str, count: usize) {
+    for (line, value) in (1..).zip(values(file, count)) {
+        let before = table(field(&value, "table"));
+        let request = request(field(&value, "request"));
+        let reply = byte(field(&value, "reply"));
+        let after = match field(&value, "after") {
             Json::Null => before.clone(),
             changed => table(changed),
         };
         let outcome = step(&before, &request);
-        assert_eq!(outcome, (reply, after.clone()), "line {}", line + 1);
+        assert_eq!(outcome, (reply, after.clone()), "{file}, line {line}");
         let mut lent = before;
         assert_eq!(step_in_place(&mut lent, &request), reply);
-        assert_eq!(lent, after, "line {}", line + 1);
+        assert_eq!(lent, after, "{file}, line {line}");
     }
+}
+
+#[test]
+fn steps() {
+    expect_steps("steps.jsonl", 360);
+}
+
+#[test]
+fn steps_of_2_3() {
+    expect_steps("2.3/steps.jsonl", 160);
 }
 
 #[test]
 fn access() {
-    let lines = lines("access.jsonl");
-    assert_eq!(lines.len(), 30);
-    for (line, value) in lines.iter().enumerate() {
+    for (line, value) in (1..).zip(values("access.jsonl", 30)) {
         let mut expected = Access::none();
-        for (holder, row) in field(value, "rows").as_object().expect("rows") {
+        for (holder, row) in field(&value, "rows").as_object().expect("rows") {
             for (target, rights) in row.as_object().expect("row") {
                 expected.rights[index(holder)][index(target)] = byte(rights);
             }
         }
-        let expected = (byte(field(value, "number")), expected);
-        let outcome = potential_access(&table(field(value, "table")));
-        assert_eq!(outcome, expected, "line {}", line + 1);
+        let expected = (byte(field(&value, "number")), expected);
+        let outcome = potential_access(&table(field(&value, "table")));
+        assert_eq!(outcome, expected, "line {line}");
+    }
+}
+
+/// The lines of the base's tests that 2.3 amends. Each says 12, for capabilities with wk alone.
+const AMENDED_BY_2_3: [usize; 7] = [52, 88, 89, 124, 163, 166, 172];
+
+/// The answer that the test gives to a line.
+fn tested(line: &TestLine) -> (u8, u64) {
+    confinement_test(&line.table, line.members, &line.list)
+}
+
+/// Compares a file of tests, but for the lines that are amended: of these it gives number and content.
+fn expect_tests(file: &str, count: usize, amended: &[usize]) -> Vec<(usize, TestLine)> {
+    let mut left = Vec::new();
+    for (number, value) in (1..).zip(values(file, count)) {
+        let line = TestLine::of(&value);
+        if amended.contains(&number) {
+            left.push((number, line));
+        } else {
+            assert_eq!(tested(&line), line.answer, "{file}, line {number}");
+        }
+    }
+    left
+}
+
+/// The table without the members' capabilities to non-members that have wk alone.
+fn without_weak(line: &TestLine) -> Table {
+    let mut table = line.table.clone();
+    for member in set::numbers(line.members) {
+        for slot in &mut table.record_mut(member).slots {
+            if slot.rights == WK && !set::contains(line.members, slot.target) {
+                *slot = Capability::EMPTY;
+            }
+        }
+    }
+    table
+}
+
+/// An amended line is now answered as if the members did not hold what needs no entry. On the table
+/// without that, every right has to be listed, as before.
+#[test]
+fn tests() {
+    let amended = expect_tests("tests.jsonl", 180, &AMENDED_BY_2_3);
+    assert_eq!(amended.len(), AMENDED_BY_2_3.len());
+    for (number, mut line) in amended {
+        assert_eq!(line.answer, (12, 0), "line {number}");
+        let found = tested(&line);
+        assert_eq!(found.0, 0, "line {number}");
+        let bare = without_weak(&line);
+        assert_ne!(line.table, bare);
+        line.table = bare;
+        assert_eq!(found, tested(&line), "line {number}");
     }
 }
 
 #[test]
-fn tests() {
-    let lines = lines("tests.jsonl");
-    assert_eq!(lines.len(), 180);
-    for (line, value) in lines.iter().enumerate() {
-        let outcome = confinement_test(
-            &table(field(value, "table")),
-            number_set(field(value, "members")),
-            &pairs(field(value, "list")),
-        );
-        let expected = (
-            byte(field(value, "number")),
-            number_set(field(value, "bound")),
-        );
-        assert_eq!(outcome, expected, "line {}", line + 1);
-    }
+fn tests_of_2_3() {
+    expect_tests("2.3/tests.jsonl", 80, &[]);
 }
 
 #[test]
@@ -199,27 +172,23 @@ fn confine_cases() {
 
 #[test]
 fn chains() {
-    let lines = lines("2.1/chains.jsonl");
-    assert_eq!(lines.len(), 161);
-    for (line, value) in lines.iter().enumerate() {
+    for (line, value) in (1..).zip(values("2.1/chains.jsonl", 161)) {
         let outcome = chain(
-            &table(field(value, "table")),
-            number_set(field(value, "members")),
-            &pairs(field(value, "list")),
-            byte(field(value, "object")),
+            &table(field(&value, "table")),
+            number_set(field(&value, "members")),
+            &pairs(field(&value, "list")),
+            byte(field(&value, "object")),
         );
-        let expected = (byte(field(value, "number")), bytes(field(value, "chain")));
-        assert_eq!(outcome, expected, "line {}", line + 1);
+        let expected = (byte(field(&value, "number")), bytes(field(&value, "chain")));
+        assert_eq!(outcome, expected, "line {line}");
     }
 }
 
 #[test]
 fn imports() {
-    let lines = lines("2.2/imports.jsonl");
-    assert_eq!(lines.len(), 160);
-    for (line, value) in lines.iter().enumerate() {
-        let outcome = import(&hexadecimal(field(value, "bytes")));
-        let expected = (byte(field(value, "number")), table(field(value, "table")));
-        assert_eq!(outcome, expected, "line {}", line + 1);
+    for (line, value) in (1..).zip(values("2.2/imports.jsonl", 160)) {
+        let outcome = import(&hexadecimal(field(&value, "bytes")));
+        let expected = (byte(field(&value, "number")), table(field(&value, "table")));
+        assert_eq!(outcome, expected, "line {line}");
     }
 }

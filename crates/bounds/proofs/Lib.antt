@@ -2,3 +2,4 @@
 pub mod Exact
 pub mod Words
 pub mod Passing
+pub mod Weak

@@ -19,11 +19,11 @@ use Rattle.access.specs.Answers.{bornOutside}
 use Rattle.access.proofs.TableWords.{outside-facts, outside-intro}
 use Rattle.bounds.specs.StandIn.{standIn, boundOf}
 use Rattle.confinement.specs.declared.Verdict.{Verdict}
-use Rattle.confinement.specs.declared.Verdict.the-variants.{Accepted, TableUnsound, MembersInvalid, ListInvalid, RightUnlisted, MemberHeld}
 use Rattle.confinement.specs.declared.Tested.{Tested}
 use Rattle.confinement.specs.Refusals.{verdictNumber, verdictOf}
 use Rattle.confinement.specs.Tests.{isAccepted, testOf}
 use Rattle.confinement.proofs.TestFacts.{accepted-facts}
+use Rattle.confinement.proofs.Verdicts.{accepted-is}
 use Rattle.chains.specs.declared.ChainReply.{ChainReply}
 use Rattle.chains.specs.declared.ChainReply.the-variants.{Done, TestRefused, ObjectInvalid, OutsideBound}
 use Rattle.chains.specs.declared.Shown.{Shown}
@@ -33,14 +33,6 @@ use Rattle.chains.specs.Answers.{chainNumber, badObject, objectReply, ch
 use Rattle.chains.proofs.Answered.{fit-object, member-bad, unfit-object}
 
 -- the ways out ----------------------------------------------------------------------------------
-accepted-is : (v : Verdict) → isAccepted v ≡ true → v ≡ Accepted
-accepted-is Accepted e = refl
-accepted-is TableUnsound e = absurd (omega (arith, eqb-true 1 0 e))
-accepted-is MembersInvalid e = absurd (omega (arith, eqb-true 10 0 e))
-accepted-is ListInvalid e = absurd (omega (arith, eqb-true 11 0 e))
-accepted-is RightUnlisted e = absurd (omega (arith, eqb-true 12 0 e))
-accepted-is MemberHeld e = absurd (omega (arith, eqb-true 13 0 e))
-
 module _ (t : Table) (members : ℕ) (list : List Capability) (z : ℕ) where
   verdict-same : testOf t members list .verdict ≡ verdictOf t members list
   unfolding testOf

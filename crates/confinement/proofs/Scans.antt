@@ -22,14 +22,14 @@ use Rattle.relation.proofs.Saturation.{bit-high}
 use Rattle.access.proofs.TableWords.{outside-facts, outside-intro}
 use Rattle.bounds.specs.declared.EntryList.{EntryList}
 use Rattle.bounds.specs.StandIn.{entriesOf, entryAt, listed}
-use Rattle.confinement.specs.Refusals.{badMembers, badEntry, badList, rightListed, allListed, badHeld, memberHeld}
+use Rattle.confinement.specs.Refusals.{badMembers, badEntry, badList, rightListed, allListed, passes, badHeld, memberHeld}
 use Rattle.confinement.specs.Helpers.{entryRefused, listRefused, listedTo, listedRights, slotUnlisted, slotNamesMember}
 
 -- a search that found, and one that did not --------------------------------------------
 found : (n : ℕ) (p : ℕ → Bool) (i : ℕ) → i < n → p i ≡ true → true ≡ anyBelow n p
 found n p i h e = sym (any-intro n p i h e)
 
-missing : (n : ℕ) (p : ℕ → Bool) → ((k : ℕ) → k < n → p k ≡ false) → anyBelow n p ≡ false
+pub missing : (n : ℕ) (p : ℕ → Bool) → ((k : ℕ) → k < n → p k ≡ false) → anyBelow n p ≡ false
 missing n p f = byCases (anyBelow n p) (λ e. any-elim n p e (λ i h g. clash g (f i h))) (λ e. e)
 
 -- row 10 ------------------------------------------------------------------------------
@@ -152,15 +152,16 @@ module _ (t : Table) (a : ℕ → Bool) (b : Capability → Bool) where
       ap (λ (x : Bool). x && b (slotAt t n j)) (sym (ap a p ∙ e)) ∙ f (n * 8 + j) (omega arith))))
       (λ e. ap (λ (x : Bool). x && anyBelow 8 (λ j. b (slotAt t n j))) e)))
 
--- the four rights of a capability, each absent or listed
-pub all-covered : (list : List Capability) (c : Capability) (found : ℕ) (p q u v : Bool) → found ≡ listedRights list (c .target)
+-- exactly wk, or the four rights of a capability, each absent or listed
+pub passes-covered : (list : List Capability) (c : Capability) (found : ℕ) (p q u v : Bool) → found ≡ listedRights list (c .target)
     → p ≡ (not (has 0 (c .rights)) || has 0 found) → q ≡ (not (has 1 (c .rights)) || has 1 found) → u ≡ (not (has 2 (c .rights)) || has 2 found) → v ≡ (not (has 3 (c .rights)) || has 3 found)
-    → (p && q && u && v) ≡ allListed list c
-unfolding allListed
-all-covered list c found p q u v f ep eq eu ev =
+    → (eqb (c .rights) 4 || (p && q && u && v)) ≡ passes list c
+unfolding allListed passes
+passes-covered list c found p q u v f ep eq eu ev =
     let bit : (b : Right) → has (bitAt b) found ≡ listed list b (c .target) = λ b. ap (has (bitAt b)) f ∙ listed-rights list b (c .target) in
     let one : (b : Right) → (not (has (bitAt b) (c .rights)) || has (bitAt b) found) ≡ rightListed list c b = λ b. ap (λ (x : Bool). not (has (bitAt b) (c .rights)) || x) (bit b) in
-    ap₂ (λ (x y : Bool). x && y) (ap₂ (λ (x y : Bool). x && y) (ap₂ (λ (x y : Bool). x && y) (ep ∙ one rd) (eq ∙ one wr)) (eu ∙ one wk)) (ev ∙ one tx)
+    ap (λ (x : Bool). eqb (c .rights) 4 || x)
+    (ap₂ (λ (x y : Bool). x && y) (ap₂ (λ (x y : Bool). x && y) (ap₂ (λ (x y : Bool). x && y) (ep ∙ one rd) (eq ∙ one wr)) (eu ∙ one wk)) (ev ∙ one tx))
 
 -- row 12
 pub slot-of-other : (members n : ℕ) (list : List Capability) (c : Capability) (b : Bool) → b ≡ has n members → b ≡ false → false ≡ slotUnlisted members list n c
@@ -172,9 +173,9 @@ slot-to-member members n list c b d p q u v =
     let f : has (c .target) members ≡ true = sym u ∙ v in
     rw (e, f) refl
 
-pub slot-listed : (members n : ℕ) (list : List Capability) (c : Capability) (b d x : Bool) → b ≡ has n members → b ≡ true → d ≡ has (c .target) members → d ≡ false → x ≡ allListed list c
+pub slot-outside : (members n : ℕ) (list : List Capability) (c : Capability) (b d x : Bool) → b ≡ has n members → b ≡ true → d ≡ has (c .target) members → d ≡ false → x ≡ passes list c
     → not x ≡ slotUnlisted members list n c
-slot-listed members n list c b d x p q u v w =
+slot-outside members n list c b d x p q u v w =
     let e : has n members ≡ true = sym p ∙ q in
     let f : has (c .target) members ≡ false = sym u ∙ v in
     rw (e, f) (ap not w)
@@ -182,11 +183,11 @@ slot-listed members n list c b d x p q u v w =
 module _ (t : Table) (members : ℕ) where
   pub unlisted-found : (list : List Capability) (k : ℕ) (b : Bool) → k < 512 → b ≡ slotUnlisted members list (k / 8) (getD (t .slots) k emptySlot) → b ≡ true → true ≡ badHeld t members list
   unfolding badHeld
-  unlisted-found list k b h e q = grid-found t (λ n. has n members) (λ c. not (has (c .target) members) && not (allListed list c)) k h (sym e ∙ q)
+  unlisted-found list k b h e q = grid-found t (λ n. has n members) (λ c. not (has (c .target) members) && not (passes list c)) k h (sym e ∙ q)
 
   pub unlisted-missing : (list : List Capability) (m : ℕ) → 512 ≤ m → ((k : ℕ) → k < m → slotUnlisted members list (k / 8) (getD (t .slots) k emptySlot) ≡ false) → false ≡ badHeld t members list
   unfolding badHeld
-  unlisted-missing list m h f = grid-missing t (λ n. has n members) (λ c. not (has (c .target) members) && not (allListed list c)) m h f
+  unlisted-missing list m h f = grid-missing t (λ n. has n members) (λ c. not (has (c .target) members) && not (passes list c)) m h f
 
   -- row 13
   pub member-found : (k : ℕ) (b : Bool) → k < 512 → b ≡ slotNamesMember members (k / 8) (getD (t .slots) k emptySlot) → b ≡ true → true ≡ memberHeld t members

@@ -3,11 +3,12 @@
 use mathlib.Core.Path.{_≡_, refl, ap}
 use mathlib.Core.Bool.{Bool, true, false, not, _&&_, _||_, false≢true}
 use mathlib.Core.List.{List}
+use mathlib.Core.Logic.{_≢_}
 use Prim.Native.Nat.{ℕ, suc, _≤_, _<_}
 use native.Mathlib.Omega.{arith}
 use lib.Dec.{ltb, eqb}
 use lib.ListN.{length}
-use borrow.Author.Tests.{ltb-false, eqb-true, not-false}
+use borrow.Author.Tests.{ltb-false, eqb-true, ne-eqb, not-false}
 use Rattle.mask.specs.Sets.{has}
 use Rattle.mask.proofs.Tests.{and-true, or-none, imply-use}
 use Rattle.mask.proofs.Below.{any-none, any-elim}
@@ -20,7 +21,7 @@ use Rattle.confinement.specs.declared.Verdict.{Verdict}
 use Rattle.confinement.specs.declared.Verdict.the-variants.{Accepted, TableUnsound, MembersInvalid, ListInvalid, RightUnlisted, MemberHeld}
 use Rattle.bounds.specs.StandIn.{entryAt, listed, lowestFrom, standIn}
 use Rattle.bounds.proofs.Passing.{lowest-from}
-use Rattle.confinement.specs.Refusals.{verdictNumber, refuse, badMembers, badEntry, badList, rightListed, allListed, badHeld, memberHeld, verdictOf}
+use Rattle.confinement.specs.Refusals.{verdictNumber, refuse, badMembers, badEntry, badList, rightListed, allListed, passes, badHeld, memberHeld, verdictOf}
 
 pub record Facts (t : Table) (members : ℕ) (list : List Capability) : Type 0 where
   pub fine : sound t ≡ true
@@ -31,8 +32,8 @@ pub record Facts (t : Table) (members : ℕ) (list : List Capability) : Type 0 w
   -- row 11
   pub short : length list ≤ 8
   pub named : (b : Right) (y : ℕ) → listed list b y ≡ true → (takesPart t y ≡ true) × (has y members ≡ false)
-  -- row 12
-  pub covered : (n j : ℕ) (b : Right) → n < 64 → j < 8 → has n members ≡ true → has (slotAt t n j .target) members ≡ false
+  -- row 12: rights other than exactly wk are listed
+  pub covered : (n j : ℕ) (b : Right) → n < 64 → j < 8 → has n members ≡ true → has (slotAt t n j .target) members ≡ false → slotAt t n j .rights ≢ 4
       → has (bitAt b) (slotAt t n j .rights) ≡ true → listed list b (slotAt t n j .target) ≡ true
   -- row 13
   pub unheld : (n j : ℕ) → n < 64 → j < 8 → has n members ≡ false → isEmpty (slotAt t n j) ≡ false → has (slotAt t n j .target) members ≡ false
@@ -47,7 +48,7 @@ passed false why k rest p e = (refl, e)
 lowest-is : (p : ℕ → Bool) (k : ℕ) → k < 64 → p k ≡ true → (lowestFrom 64 0 p < 64) × (p (lowestFrom 64 0 p) ≡ true)
 lowest-is p k h e = let l = lowest-from p 64 0 k (omega arith) (omega arith) e in (omega (arith, l .least), l .passes)
 
-listed-each : (list : List Capability) (c : Capability) (b : Right) → allListed list c ≡ true → has (bitAt b) (c .rights) ≡ true → listed list b (c .target) ≡ true
+pub listed-each : (list : List Capability) (c : Capability) (b : Right) → allListed list c ≡ true → has (bitAt b) (c .rights) ≡ true → listed list b (c .target) ≡ true
 unfolding allListed
 listed-each list c b e h = imply-use (has (bitAt b) (c .rights)) (listed list b (c .target)) (at b) h
   where
@@ -65,6 +66,11 @@ listed-each list c b e h = imply-use (has (bitAt b) (c .rights)) (listed list b 
     at wr = r .1
     at wk = q .1
     at tx = p .1
+
+-- what passes row 12 and is not exactly wk
+pub passed-listed : (list : List Capability) (c : Capability) → passes list c ≡ true → c .rights ≢ 4 → allListed list c ≡ true
+unfolding passes
+passed-listed list c e q = rw (ne-eqb (c .rights) 4 q) at e
 
 -- a test that answers no twice over
 none-and : (a b : Bool) → (a && b) ≡ false → a ≡ true → b ≡ false
@@ -99,26 +105,46 @@ module _ (t : Table) (members : ℕ) (list : List Capability) where
             rw q at (entry-facts (entryAt list k) (any-none (length list) _ (p .1) k h))),
       )
 
-  pub accepted-facts : verdictNumber (verdictOf t members list) ≡ 0 → Facts t members list
-  unfolding verdictOf badHeld memberHeld
-  accepted-facts e =
+  -- no row turned the test down
+  pub record NoRow : Type 0 where
+    pub row1 : not (sound t) ≡ false
+    pub row10 : badMembers t members ≡ false
+    pub row11 : badList t members list ≡ false
+    pub row12 : badHeld t members list ≡ false
+    pub row13 : memberHeld t members ≡ false
+
+  pub no-row : verdictNumber (verdictOf t members list) ≡ 0 → NoRow
+  unfolding verdictOf
+  no-row e =
       let r1 = passed (not (sound t)) TableUnsound 0 _ refl e in
       let r10 = passed (badMembers t members) MembersInvalid 9 _ refl (r1 .1) in
       let r11 = passed (badList t members list) ListInvalid 10 _ refl (r10 .1) in
       let r12 = passed (badHeld t members list) RightUnlisted 11 _ refl (r11 .1) in
       let r13 = passed (memberHeld t members) MemberHeld 12 Accepted refl (r12 .1) in
-      let m = members-facts (r10 .0) in
-      let l = list-facts (r11 .0) in
+      record { row1 = r1 .0; row10 = r10 .0; row11 = r11 .0; row12 = r12 .0; row13 = r13 .0 }
+
+  -- and what passes row 12, at every slot
+  pub slot-passes : badHeld t members list ≡ false → (n j : ℕ) → n < 64 → j < 8 → has n members ≡ true → has (slotAt t n j .target) members ≡ false
+      → passes list (slotAt t n j) ≡ true
+  unfolding badHeld
+  slot-passes e n j hn hj i o =
+      not-false _ (none-and (not (has (slotAt t n j .target) members)) _ (any-none 8 _ (none-and (has n members) _ (any-none 64 _ e n hn) i) j hj) (ap not o))
+
+  pub accepted-facts : verdictNumber (verdictOf t members list) ≡ 0 → Facts t members list
+  unfolding memberHeld
+  accepted-facts e =
+      let r = no-row e in
+      let m = members-facts (r .row10) in
+      let l = list-facts (r .row11) in
       record {
-        fine = not-false _ (r1 .0);
+        fine = not-false _ (r .row1);
         low = m .0 .0;
         lowest = m .0 .1;
         alive = m .1;
         short = l .0;
         named = l .1;
-        covered = λ n j b hn hj i o h.
-            listed-each list (slotAt t n j) b
-            (not-false _ (none-and (not (has (slotAt t n j .target) members)) _ (any-none 8 _ (none-and (has n members) _ (any-none 64 _ (r12 .0) n hn) i) j hj) (ap not o))) h;
+        covered = λ n j b hn hj i o q h.
+            listed-each list (slotAt t n j) b (passed-listed list (slotAt t n j) (slot-passes (r .row12) n j hn hj i o) q) h;
         unheld = λ n j hn hj o f.
-            none-and (not (isEmpty (slotAt t n j))) _ (any-none 8 _ (none-and (not (has n members)) _ (any-none 64 _ (r13 .0) n hn) (ap not o)) j hj) (ap not f);
+            none-and (not (isEmpty (slotAt t n j))) _ (any-none 8 _ (none-and (not (has n members)) _ (any-none 64 _ (r .row13) n hn) (ap not o)) j hj) (ap not f);
       }

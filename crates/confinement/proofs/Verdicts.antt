@@ -1,10 +1,11 @@
--- The six ways out of the test: what the checks found, as the verdict of the definition; and that a sound table never gets 1. Assumes nothing.
+-- The six ways out of the test: what the checks found, as the verdict of the definition; which verdict is accepted; and that a sound table never gets 1. Assumes nothing.
 use mathlib.Core.Path.{_≡_, refl, sym, _∙_, ap}
 use mathlib.Core.Bool.{Bool, true, false}
 use mathlib.Core.List.{List}
 use mathlib.Core.Logic.{_≢_}
 use Prim.Native.Nat.{ℕ, _<_}
 use native.Mathlib.Omega.{arith}
+use borrow.Author.Tests.{eqb-true}
 use Rattle.mask.proofs.Tests.{byCases}
 use Rattle.table.specs.declared.Capability.{Capability}
 use Rattle.table.specs.declared.Table.{Table}
@@ -19,12 +20,20 @@ use Rattle.confinement.specs.Helpers.{listRefused}
 use Rattle.confinement.proofs.Scans.{list-same}
 use Rattle.confinement.proofs.TestFacts.{members-facts}
 
+pub accepted-is : (v : Verdict) → isAccepted v ≡ true → v ≡ Accepted
+accepted-is Accepted e = refl
+accepted-is TableUnsound e = absurd (omega (arith, eqb-true 1 0 e))
+accepted-is MembersInvalid e = absurd (omega (arith, eqb-true 10 0 e))
+accepted-is ListInvalid e = absurd (omega (arith, eqb-true 11 0 e))
+accepted-is RightUnlisted e = absurd (omega (arith, eqb-true 12 0 e))
+accepted-is MemberHeld e = absurd (omega (arith, eqb-true 13 0 e))
+
 module _ (t : Table) (members : ℕ) (list : List Capability) where
   by-verdict : (v : Verdict) → isAccepted v ≡ false → verdictOf t members list ≡ v → refusedTest v ≡ testOf t members list
   unfolding testOf
   by-verdict v n e = rw (ap isAccepted e ∙ n, testOf) (ap refusedTest (sym e))
 
-  accepted : verdictOf t members list ≡ Accepted → record { verdict = Accepted; bound = boundOf t members list } ≡ testOf t members list
+  pub accepted : verdictOf t members list ≡ Accepted → record { verdict = Accepted; bound = boundOf t members list } ≡ testOf t members list
   unfolding testOf
   accepted e = rw (ap isAccepted e, testOf) refl
 

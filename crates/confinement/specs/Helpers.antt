@@ -8,7 +8,7 @@ use Rattle.mask.specs.Sets.{has, anyBelow, unionOf}
 use Rattle.table.specs.declared.Capability.{Capability}
 use Rattle.table.specs.Cells.{isEmpty}
 use Rattle.bounds.specs.StandIn.{entryAt}
-use Rattle.confinement.specs.Refusals.{allListed}
+use Rattle.confinement.specs.Refusals.{passes}
 
 -- row 11 by the set of born non-members
 abbrev pub entryRefused : ℕ → Capability → Bool
@@ -29,7 +29,7 @@ listedRights list y = listedTo list y (length list)
 
 -- row 12 at a slot of n
 abbrev pub slotUnlisted : ℕ → List Capability → ℕ → Capability → Bool
-slotUnlisted members list n c = has n members && (not (has (c .target) members) && not (allListed list c))
+slotUnlisted members list n c = has n members && (not (has (c .target) members) && not (passes list c))
 
 -- row 13 at a slot of n
 abbrev pub slotNamesMember : ℕ → ℕ → Capability → Bool

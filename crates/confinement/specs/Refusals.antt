@@ -1,4 +1,4 @@
--- Document 01, "Why something is turned down", rows 1 and 10 to 13, in number order.
+-- Document 01, "Why something is turned down", rows 1 and 10 to 13, in number order; row 12 as document 02, 2.3 amends it.
 use mathlib.Core.Bool.{Bool, true, false, not, _&&_, _||_}
 use mathlib.Core.List.{List}
 use Prim.Native.Nat.{ℕ}
@@ -48,10 +48,15 @@ rightListed list c b = not (has (bitAt b) (c .rights)) || listed list b (c .targ
 unfoldable pub allListed : List Capability → Capability → Bool
 allListed list c = rightListed list c rd && rightListed list c wr && rightListed list c wk && rightListed list c tx
 
--- row 12: "a member's capability to a non-member has a right not listed for it"
+-- document 02, 2.3: "a member's capability whose rights are exactly wk passes the test unlisted"; any other one needs each of its
+-- rights listed
+unfoldable pub passes : List Capability → Capability → Bool
+passes list c = eqb (c .rights) 4 || allListed list c
+
+-- row 12, as 2.3 amends it: "a member's capability to a non-member has a right not listed for it", and its rights are not exactly wk
 unfoldable pub badHeld : Table → ℕ → List Capability → Bool
 badHeld t members list =
-    anyBelow 64 (λ n. has n members && anyBelow 8 (λ j. not (has (slotAt t n j .target) members) && not (allListed list (slotAt t n j))))
+    anyBelow 64 (λ n. has n members && anyBelow 8 (λ j. not (has (slotAt t n j .target) members) && not (passes list (slotAt t n j))))
 
 -- row 13: "a non-member holds a capability naming a member"
 unfoldable pub memberHeld : Table → ℕ → Bool

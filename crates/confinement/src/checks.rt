@@ -1,4 +1,4 @@
-// What turns the confinement test down, document 01, rows 10 to 13.
+// What turns the confinement test down, document 01, rows 10 to 13; row 12 as 2.3 of document 02 amends it.
 use bounds::EntryList;
 use table::Capability;
 use table::Table;
@@ -7,7 +7,7 @@ ghost use mathlib.Core.Bool.{not, _||_};
 ghost use Prim.Native.Nat.{_≤_, _<_};
 ghost use Rattle.mask.specs.Sets.{has};
 ghost use Rattle.bounds.specs.StandIn.{entriesOf};
-ghost use Rattle.confinement.specs.Refusals.{badMembers, allListed, badHeld, memberHeld};
+ghost use Rattle.confinement.specs.Refusals.{badMembers, passes, badHeld, memberHeld};
 ghost use Rattle.confinement.specs.Helpers.{entryRefused, listRefused, listedRights, slotUnlisted, slotNamesMember};
 
 // Row 10: no member, or one that is not alive.
@@ -74,17 +74,18 @@ pub fn covered(rights: u8, listed: u64, b: u8) -> bool
     !mask::has(rights as u64, b) | mask::has(listed, b)
 }
 
-// Is each right of the capability listed for its target?
-pub fn all_listed(l: EntryList, c: Capability) -> bool
+// Does this capability of a member pass? Its rights are exactly wk, or each of them is listed for its target.
+pub fn passes(l: EntryList, c: Capability) -> bool
     requires { ⌜ l .count ≤ 8 ⌝ }
-    ensures { λ r. ⌜ r ≡ allListed (entriesOf l) c ⌝ }
+    ensures { λ r. ⌜ r ≡ passes (entriesOf l) c ⌝ }
 {
     let found = listed_for(l, c.target);
     let rights = c.rights;
-    covered(rights, found, 0)
-        & covered(rights, found, 1)
-        & covered(rights, found, 2)
-        & covered(rights, found, 3)
+    (rights == 4)
+        | (covered(rights, found, 0)
+            & covered(rights, found, 1)
+            & covered(rights, found, 2)
+            & covered(rights, found, 3))
 }
 
 // Row 12 at a slot of n.
@@ -98,10 +99,10 @@ pub fn slot_unlisted(members: u64, l: EntryList, n: u8, c: Capability) -> bool
     if mask::has(members, c.target) {
         return false;
     }
-    !all_listed(l, c)
+    !passes(l, c)
 }
 
-// Row 12: a member's capability to a non-member has a right not listed for it.
+// Row 12: a member's capability to a non-member has a right not listed for it, and its rights are not exactly wk.
 pub fn right_unlisted(t: Table, members: u64, l: EntryList) -> bool
     requires { ⌜ l .count ≤ 8 ⌝ }
     ensures { λ r. ⌜ r ≡ badHeld t members (entriesOf l) ⌝ }
@@ -120,7 +121,9 @@ pub fn right_unlisted(t: Table, members: u64, l: EntryList) -> bool
 pub fn slot_names_member(members: u64, n: u8, c: Capability) -> bool
     ensures { λ r. ⌜ r ≡ slotNamesMember members n c ⌝ }
 {
-    !mask::has(members, n) & (!((c.target == 0) & (c.rights == 0)) & mask::has(members, c.target))
+    let target = c.target;
+    let rights = c.rights;
+    !mask::has(members, n) & (!((target == 0) & (rights == 0)) & mask::has(members, target))
 }
 
 // Row 13: a non-member, passive ones too, holds a capability naming a member.

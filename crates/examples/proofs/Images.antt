@@ -8,7 +8,7 @@ use Rattle.table.specs.Soundness.{stockSound, soundAt, sound}
 use Rattle.relation.specs.Relation.{takesPart, holdsIn}
 use Rattle.relation.specs.Closure.{grow, spread, only, reached, bothTakePart, holdsStrong, link, influencedSet}
 use Rattle.bounds.specs.StandIn.{listed, lowestFrom, standIn, testNode, testHeld, boundOf}
-use Rattle.confinement.specs.Refusals.{badMembers, badEntry, badList, allListed, badHeld, memberHeld, verdictOf}
+use Rattle.confinement.specs.Refusals.{badMembers, badEntry, badList, allListed, passes, badHeld, memberHeld, verdictOf}
 use Rattle.confinement.specs.Tests.{testOf}
 use Rattle.octets.specs.BigEndian.{bytesOf, numberFrom}
 use Rattle.image.specs.Layout.{Version, storedAt, objectBytes, slotsBytes, storedBytes, recordsBytes, imageOf, partOf, recordFrom, slotFrom, tableFrom}
@@ -22,7 +22,7 @@ use Rattle.examples.specs.TableK.{K}
 use Rattle.examples.specs.Statement.{input}
 
 pub one : printedOf input ≡ 97 ∷ 99 ∷ 99 ∷ 101 ∷ 112 ∷ 116 ∷ 101 ∷ 100 ∷ 10 ∷ 48 ∷ 10 ∷ 49 ∷ 10 ∷ 50 ∷ 10 ∷ []
-unfolding K input bits allBelow anyBelow lessOf tabulate stockSound soundAt sound takesPart holdsIn grow spread only reached bothTakePart holdsStrong link influencedSet listed lowestFrom standIn testNode testHeld boundOf badMembers badEntry badList allListed badHeld memberHeld verdictOf testOf bytesOf numberFrom storedAt objectBytes slotsBytes storedBytes recordsBytes imageOf partOf recordFrom slotFrom tableFrom refusalAs readOf wrongLength membersOf entryIn entriesIn listOf loadedDecision decisionOf decimal numberLines refusedLine acceptedLines linesOf
+unfolding K input bits allBelow anyBelow lessOf tabulate stockSound soundAt sound takesPart holdsIn grow spread only reached bothTakePart holdsStrong link influencedSet listed lowestFrom standIn testNode testHeld boundOf badMembers badEntry badList allListed passes badHeld memberHeld verdictOf testOf bytesOf numberFrom storedAt objectBytes slotsBytes storedBytes recordsBytes imageOf partOf recordFrom slotFrom tableFrom refusalAs readOf wrongLength membersOf entryIn entriesIn listOf loadedDecision decisionOf decimal numberLines refusedLine acceptedLines linesOf
 one = refl
 
 pub twelve : (readNumber (readOf (take 1922 (imageOf Version.one K)) .reply) ≡ 14) × (readNumber (readOf (set (imageOf Version.one K) 2 0) .reply) ≡ 15)

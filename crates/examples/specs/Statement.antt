@@ -44,7 +44,9 @@ pub record Twelve : Type 0 where
   -- "accepted", "0", "1", "2", a line each
   pub one : printedOf input
       ≡ 97 ∷ 99 ∷ 99 ∷ 101 ∷ 112 ∷ 116 ∷ 101 ∷ 100 ∷ 10 ∷ 48 ∷ 10 ∷ 49 ∷ 10 ∷ 50 ∷ 10 ∷ []
-  pub two : (verdictNumber (testOf weakK (the 5) (over 1 wkRight ∷ []) .verdict) ≡ 0) × (testOf weakK (the 5) (over 1 wkRight ∷ []) .bound ≡ 0)
+  -- as 2.3 amends it: with the list (1, wk), and with the list empty
+  pub two : ((verdictNumber (testOf weakK (the 5) (over 1 wkRight ∷ []) .verdict) ≡ 0) × (testOf weakK (the 5) (over 1 wkRight ∷ []) .bound ≡ 0))
+      × ((verdictNumber (testOf weakK (the 5) [] .verdict) ≡ 0) × (testOf weakK (the 5) [] .bound ≡ 0))
   pub three : verdictNumber (testOf K (the 5) [] .verdict) ≡ 12
   pub four : verdictNumber (testOf watchedK (the 5) (over 1 wrRight ∷ []) .verdict) ≡ 13
   -- whatever is listed

@@ -14,3 +14,4 @@ pub mod Start
 pub mod TwoRuns
 pub mod Nonsense
 pub mod Witness
+pub mod Unlisted

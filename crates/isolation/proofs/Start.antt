@@ -1,7 +1,7 @@
 -- The invariant at the start: where the confinement test accepts, the table and the born non-members outside the bound are
 -- isolated. A clean object holds nothing over a member (row 13) nor over the bound, or it would be in the bound itself; and what
--- points at it from outside is wk alone, since rd, wr or tx from a member's listed capabilities or from the bound would bring it
--- into the bound. Assumes nothing.
+-- points at it from outside is wk alone: a member's unlisted capability is wk alone, and rd, wr or tx from a member's listed
+-- capabilities or from the bound would bring it into the bound. Assumes nothing.
 use mathlib.Core.Path.{_≡_, refl, ap}
 use mathlib.Core.Logic.{_≢_}
 use mathlib.Core.Bool.{Bool, true, false, not, _&&_, _||_, false≢true}
@@ -11,7 +11,7 @@ use native.Mathlib.Omega.{arith}
 use lib.Dec.{eqb}
 use borrow.Author.Tests.{eqb-true, ne-eqb, not-true}
 use Rattle.mask.specs.Sets.{has, allBelow}
-use Rattle.mask.proofs.Tests.{byCases, clash, and-true, and-intro, or-cases}
+use Rattle.mask.proofs.Tests.{byCases, byEq, clash, and-true, and-intro, or-cases}
 use Rattle.mask.proofs.Below.{all-at}
 use Rattle.table.specs.declared.Capability.{Capability}
 use Rattle.table.specs.declared.Table.{Table}
@@ -119,9 +119,9 @@ module _ (t : Table) (members : ℕ) (list : List Capability) (d : Sound t) (ok 
         let f = d .slots n j hj in
         let low = part-low t (c .target) (k .part) .0 in
         byCases (has n members)
-        (λ m. weak-alone X (c .target) (c .rights) k (f .high) l
-        (λ b e. can (listed-has t members list d ok b (c .target) (ok .covered n j b (part-low t n (takes-part t d n (omega (arith, f .held l))) .0) hj m (k .out) e)))
-        (λ i. bound-all t members list (c .target) low (k .out) (first i)))
+        (λ m. byEq (c .rights) wkAlone (λ w. w) (λ w. weak-alone X (c .target) (c .rights) k (f .high) l
+        (λ b e. can (listed-has t members list d ok b (c .target) (ok .covered n j b (part-low t n (takes-part t d n (omega (arith, f .held l))) .0) hj m (k .out) w e)))
+        (λ i. bound-all t members list (c .target) low (k .out) (first i))))
         (λ m. weak-alone n (c .target) (c .rights) k (f .high) l
         (λ b e. can (slot-has t members list d ok n j b hj m e))
         (λ i. let p = takes-part t d n (omega (arith, f .held l)) in

@@ -22,7 +22,7 @@ use Rattle.table.proofs.Cells.{record-other, slot-other}
 use Rattle.relation.specs.Relation.{takesPart, holdsIn}
 use Rattle.relation.specs.Closure.{grow, spread, only, reached, bothTakePart, holdsStrong, link, influencedSet}
 use Rattle.bounds.specs.StandIn.{listed, lowestFrom, standIn, testNode, testHeld, boundOf}
-use Rattle.confinement.specs.Refusals.{verdictNumber, badMembers, badEntry, badList, allListed, badHeld, memberHeld, verdictOf}
+use Rattle.confinement.specs.Refusals.{verdictNumber, badMembers, badEntry, badList, allListed, passes, badHeld, memberHeld, verdictOf}
 use Rattle.bounds.specs.Agreement.{AgreeOutside}
 use Rattle.refusals.specs.declared.Reply.the-variants.{Done}
 use Rattle.requests.specs.Asks.{Ask, read, write, allocate}
@@ -35,10 +35,10 @@ use Rattle.isolation.specs.Demand.{Alike, BothAccepted, TwoRuns}
 use Rattle.isolation.proofs.TwoRuns.{two-runs}
 
 -- a value of the table type, by trying every record and slot ------------------------
-recordFits : Record → Bool
+unfoldable pub recordFits : Record → Bool
 recordFits r = ltb (r .status) 256 && ltb (r .kind) 256 && ltb (r .word) (2 ^ 32) && ltb (r .stock) (2 ^ 64)
 
-slotFits : Capability → Bool
+unfoldable pub slotFits : Capability → Bool
 slotFits c = ltb (c .target) 256 && ltb (c .rights) 256
 
 -- a fact of every element, from those below the length and the default
@@ -47,7 +47,7 @@ each P d l n e h f k = byCases (ltb k n)
     (λ q. all-at n _ f k (ltb-true k n q))
     (λ q. ap P (List·getD-eq-default l d (omega (arith, ltb-false k n q))) ∙ h)
 
-value-of : (t : Table) → length (t .records) ≡ 64 → length (t .slots) ≡ 512
+pub value-of : (t : Table) → length (t .records) ≡ 64 → length (t .slots) ≡ 512
     → allBelow 64 (λ n. recordFits (getD (t .records) n unbornRecord)) ≡ true
     → allBelow 512 (λ k. slotFits (getD (t .slots) k emptySlot)) ≡ true → IsTable t
 unfolding recordFits slotFits
@@ -69,64 +69,66 @@ value-of t p q f g = record {
     cap = each slotFits emptySlot (t .slots) 512 q refl g
 
 -- the tables -------------------------------------------------------------------------
-alive : ℕ → ℕ → ℕ → Record
+unfoldable pub alive : ℕ → ℕ → ℕ → Record
 alive kind word stock = record { status = 1; kind = kind; word = word; stock = stock }
 
-over : ℕ → ℕ → Capability
+unfoldable pub over : ℕ → ℕ → Capability
 over target rights = record { target = target; rights = rights }
 
 -- 0 has 8 in stock and everything over 1; the member 2 may write 3 and read 1 weakly
-pub base : Table
+unfoldable pub base : Table
 unfolding alive over
 base = putSlot (putSlot (putSlot (record {
-  records = (alive 1 0 (2 ^ 8) ∷ alive 0 0 0 ∷ alive 1 5 0 ∷ alive 0 0 0 ∷ []) ++ replicate 60 unbornRecord;
+  records = (alive 1 0 (2 ^ 8) ∷ alive 0 6 0 ∷ alive 1 5 0 ∷ alive 0 0 0 ∷ []) ++ replicate 60 unbornRecord;
   slots = replicate 512 emptySlot;
 }) 0 0 (over 1 15)) 2 0 (over 3 2)) 2 1 (over 1 4)
 
 -- another word and another slot of the member
-pub other : Table
+unfoldable pub other : Table
 unfolding alive over
 other = putSlot (putRecord base 2 (alive 1 9 0)) 2 5 (over 3 2)
 
-pub members : ℕ
+unfoldable pub members : ℕ
 members = 2 ^ 2
 
-pub list : List Capability
+unfoldable pub list : List Capability
 unfolding over
 list = over 3 2 ∷ over 1 4 ∷ []
 
 -- 2 writes 3 through slot 0; 0 makes 8; 0 writes 1
-pub left-list : List Ask
+unfoldable pub left-list : List Ask
 left-list = write 2 0 7 ∷ allocate 0 8 1 0 3 [] ∷ write 0 0 4 ∷ []
 
 -- 0 makes 8; 2 reads 1 and writes 3 twice; 0 writes 1
-pub right-list : List Ask
+unfoldable pub right-list : List Ask
 right-list = allocate 0 8 1 0 3 [] ∷ read 2 1 ∷ write 2 0 6 ∷ write 2 5 3 ∷ write 0 0 4 ∷ []
 
 base-value : IsTable base
 unfolding base alive over recordFits slotFits allBelow
 base-value = value-of base refl refl refl refl
 
-other-value : IsTable other
+pub other-value : IsTable other
 unfolding other base alive over recordFits slotFits allBelow
 other-value = value-of other refl refl refl refl
 
+-- a non-member is not 2
+pub apart : (n : ℕ) → has n members ≡ false → n ≢ 2
+unfolding members
+apart n o e = clash refl (rw e at o)
+
 tables-agree : AgreeOutside members base other
-unfolding other members
+unfolding other
 tables-agree = record {
   records = λ n l o. sym (record-other base 2 n (alive 1 9 0) (apart n o));
   slots = λ n j l hj o. sym (slot-other (putRecord base 2 (alive 1 9 0)) 2 5 n j (over 3 2) (omega arith) hj (apart n o));
 }
-  where
-    apart : (n : ℕ) → has n (2 ^ 2) ≡ false → n ≢ 2
-    apart n o e = clash refl (rw e at o)
 
 accepted-base : verdictNumber (verdictOf base members list) ≡ 0
-unfolding base other members list alive over bits allBelow anyBelow stockSound soundAt sound takesPart holdsIn listed badMembers badEntry badList allListed badHeld memberHeld verdictOf
+unfolding base other members list alive over bits allBelow anyBelow stockSound soundAt sound takesPart holdsIn listed badMembers badEntry badList allListed passes badHeld memberHeld verdictOf
 accepted-base = refl
 
 accepted-other : verdictNumber (verdictOf other members list) ≡ 0
-unfolding base other members list alive over bits allBelow anyBelow stockSound soundAt sound takesPart holdsIn listed badMembers badEntry badList allListed badHeld memberHeld verdictOf
+unfolding base other members list alive over bits allBelow anyBelow stockSound soundAt sound takesPart holdsIn listed badMembers badEntry badList allListed passes badHeld memberHeld verdictOf
 accepted-other = refl
 
 both : BothAccepted base other members list
@@ -136,7 +138,7 @@ both = record { left = base-value; right = other-value; accepted-left = accepted
 abbrev C : Clean
 C = cleanAtStart base members list
 
-abbrev D : Clean
+abbrev pub D : Clean
 D = cleanAtStart other members list
 
 pub tables-differ : base ≢ other
@@ -153,14 +155,14 @@ unfolding base members list alive over bits allBelow anyBelow stockSound soundAt
 others-act = refl
 
 -- the clean requests of the two lists, and the replies to them
-pub asked : List Ask
+unfoldable pub asked : List Ask
 asked = allocate 0 8 1 0 3 [] ∷ write 0 0 4 ∷ []
 
 left-asked : cleanRequests base C left-list ≡ asked
 unfolding asked left-list base members list alive over bits allBelow anyBelow lessOf excluding subsetOf stockSound soundAt sound takesPart holdsIn grow spread only reached bothTakePart holdsStrong link influencedSet listed lowestFrom standIn testNode testHeld boundOf cleanAtStart cleanAfter cleanRequests Rows.badSlots Rows.badList Rows.badField Rows.needMet Rows.through Rows.throughSlot Rows.notInStock Rows.laterRows Rows.refusal landed copyPairs stockLess allocated effect after
 left-asked = refl
 
-right-asked : cleanRequests other D right-list ≡ asked
+pub right-asked : cleanRequests other D right-list ≡ asked
 unfolding asked right-list other base members list alive over bits allBelow anyBelow lessOf excluding subsetOf stockSound soundAt sound takesPart holdsIn grow spread only reached bothTakePart holdsStrong link influencedSet listed lowestFrom standIn testNode testHeld boundOf cleanAtStart cleanAfter cleanRequests Rows.badSlots Rows.badList Rows.badField Rows.needMet Rows.through Rows.throughSlot Rows.notInStock Rows.laterRows Rows.refusal landed copyPairs stockLess allocated effect after
 right-asked = refl
 

@@ -4,7 +4,7 @@ use mathlib.Core.Bool.{Bool, true, false, _||_, false≢true}
 use Prim.Native.Nat.{ℕ, zero, suc, _+_, _<_}
 use native.Mathlib.Omega.{arith}
 use Rattle.mask.specs.Sets.{allBelow, anyBelow}
-use Rattle.mask.proofs.Tests.{byCases, byEq, clash, bool-ext, or-right, or-false}
+use Rattle.mask.proofs.Tests.{byCases, byEq, clash, bool-ext, or-cases, or-left, or-right, or-false}
 
 pub all-at : (n : ℕ) (p : ℕ → Bool) → allBelow n p ≡ true → (i : ℕ) → i < n → p i ≡ true
 unfolding allBelow
@@ -54,6 +54,17 @@ unfolding anyBelow
 any-last n p = byCases (p n)
     (λ e. rw (e, anyBelow) (sym (or-right (anyBelow n p) true refl)))
     (λ e. rw (e, anyBelow) (sym (or-false (anyBelow n p))))
+
+pub any-first : (n : ℕ) (p : ℕ → Bool) → anyBelow (suc n) p ≡ (p 0 || anyBelow n (λ k. p (suc k)))
+any-first n p = bool-ext (anyBelow (suc n) p) (p 0 || anyBelow n (λ k. p (suc k)))
+    (λ e. any-elim (suc n) p e (at-first))
+    (λ e. or-cases (p 0) (anyBelow n (λ k. p (suc k))) e
+    (λ f. any-intro (suc n) p 0 (omega arith) f)
+    (λ f. any-elim n (λ k. p (suc k)) f (λ i h g. any-intro (suc n) p (suc i) (omega arith) g)))
+  where
+    at-first : (i : ℕ) → i < suc n → p i ≡ true → (p 0 || anyBelow n (λ k. p (suc k))) ≡ true
+    at-first zero h f = or-left (p 0) _ f
+    at-first (suc i) h f = or-right (p 0) _ (any-intro n (λ k. p (suc k)) i (omega arith) f)
 
 pub any-ext : (n : ℕ) (p q : ℕ → Bool) → ((i : ℕ) → i < n → p i ≡ q i) → anyBelow n p ≡ anyBelow n q
 any-ext n p q f = bool-ext (anyBelow n p) (anyBelow n q)

@@ -4,6 +4,7 @@
 -- The argument: self rights are total, so one held rd, wr or tx gives both ends everything over each other (a bond), and wk
 -- alone goes along links. Each rule keeps "there is a path", and each edge is an instance of the rules. Assumes nothing.
 use mathlib.Core.Path.{_≡_, refl}
+use mathlib.Core.Logic.{_≢_}
 use mathlib.Core.Bool.{Bool, true, false, _||_, false≢true}
 use Prim.Native.Nat.{ℕ, _^_, _<_}
 use native.Mathlib.Omega.{arith}
@@ -16,7 +17,7 @@ use Rattle.table.specs.declared.Table.{Table}
 use Rattle.relation.specs.Relation.{Right, rd, wr, wk, tx, Holding, Can, holds, self, reads, weak-rd, weak-wk, writes, sends, Influences, by-wr, by-tx, by-rd, by-wk, Influenced, first, more, takesPart, tableHolding}
 use Rattle.relation.specs.Closure.{bothTakePart, holdsStrong, bond, link, linkBack, edgeOf, rowOf, influencedSet}
 use Rattle.relation.specs.Exactness.{Low, AccessExact, InfluenceExact}
-use Rattle.relation.proofs.Reach.{Path, stay, step, join, turn, reached-lt, reached-path, path-reached}
+use Rattle.relation.proofs.Reach.{Path, stay, step, join, turn, path-into, reached-lt, reached-path, path-reached}
 
 -- every right but wk
 abbrev pub isStrong : Right → Bool
@@ -217,6 +218,10 @@ module _ (h : Holding) where
   pub influenced-lt : (x : ℕ) → influencedSet h x < 2 ^ 64
   unfolding influencedSet
   influenced-lt x = set-lt (h .node x) _ (reached-lt (link h) x)
+
+-- links into x lead nowhere new from x
+pub influenced-into : (g h : Holding) (x y : ℕ) → h .node x ≡ true → ((u v : ℕ) → v ≢ x → link g u v ≡ true → link h u v ≡ true) → Influenced g x y → Influenced h x y
+influenced-into g h x y n f i = links-influenced h n (path-into (link g) (link h) x f (influenced-links g i .1))
 
 -- the statements ---------------------------------------------------------------------------------------
 pub access-exact : AccessExact

@@ -27,6 +27,13 @@ pub turn : (edge : ℕ → ℕ → Bool) {x y : ℕ} → Path (λ a b. edge b a)
 turn edge stay = stay
 turn edge (step p q) = join (step stay q) (turn edge p)
 
+-- a path from x in a graph that has all edges of this one but for those into x
+pub path-into : (edge other : ℕ → ℕ → Bool) (x : ℕ) → ((u v : ℕ) → v ≢ x → edge u v ≡ true → other u v ≡ true) → {y : ℕ} → Path edge x y → Path other x y
+path-into edge other x f stay = stay
+path-into edge other x f (step {y = u} {z = v} p e) = byEq v x
+    (λ q. subst⁻¹ (λ (w : ℕ). Path other x w) q stay)
+    (λ q. step (path-into edge other x f p) (f u v q e))
+
 -- how many numbers below n a set has ------------------------------------------
 unfoldable pub count : ℕ → ℕ → ℕ
 count zero s = 0

@@ -1,5 +1,6 @@
 //! The inputs that stack and instructions are measured on: for each call some that are done and some
-//! that are refused, on table K, on the filled table, and on long chains where reaching takes longest.
+//! that are refused, on table K, on the filled table, and on long chains where reaching takes longest; tests
+//! with wk alone in many slots too.
 
 use yavrinks_model::access::potential_access;
 use yavrinks_model::chain::chain;
@@ -14,8 +15,8 @@ use yavrinks_model::wire::encode;
 use yavrinks_tools::generate::{encode_input, printed_number, ConfinementCase, ShownCase};
 
 use crate::calls::{Call, Sample};
-use crate::samples::{chain_table, farthest, imports, mended, own_test, places, requests};
-use crate::samples::{unsound_at_the_end, Import, Place};
+use crate::samples::{chain_table, farthest, imports, list_bytes, material_test, mended, own_test};
+use crate::samples::{places, requests, unsound_at_the_end, Import, Place};
 
 /// The inputs of a call.
 pub fn samples(call: Call) -> Vec<Sample> {
@@ -120,6 +121,7 @@ fn tests() -> Vec<(String, ConfinementCase)> {
         add("unlisted", &table, set::single(member), &[]);
         add("member named", &table, set::of([1, member]), &list);
     }
+    tests.push((String::from("64 wk unlisted"), material_test()));
     tests.push((String::from("chain"), chain_test(false, 0, 1)));
     tests.push((String::from("chain turned about"), chain_test(true, 63, 62)));
     tests
@@ -138,15 +140,11 @@ fn test((name, case): (String, ConfinementCase)) -> Sample {
     Sample {
         name,
         number: confinement_test(&case.table, case.members, &case.list).0,
-        bytes: list_bytes(&case),
+        bytes: list_bytes(&case.list),
         table: case.table,
         members: case.members,
         object: 0,
     }
-}
-
-fn list_bytes(case: &ConfinementCase) -> Vec<u8> {
-    case.list.iter().flat_map(|&(a, b)| [a, b]).collect()
 }
 
 /// What is asked of a test: the chain to the object farthest off; and where the test is accepted also that
@@ -177,7 +175,7 @@ fn shown((name, case): (String, ShownCase)) -> Sample {
     Sample {
         name,
         number: chain(&test.table, test.members, &test.list, object).0,
-        bytes: list_bytes(&test),
+        bytes: list_bytes(&test.list),
         table: test.table,
         members: test.members,
         object,

@@ -1,5 +1,6 @@
 //! The tables, tests, requests and imports that time, stack and instructions are measured on.
 
+use yavrinks_model::confinement::Entry;
 use yavrinks_model::links::Links;
 use yavrinks_model::set;
 use yavrinks_model::step::{step_in_place, Code, Fields, Request};
@@ -110,12 +111,38 @@ pub fn held_list(table: &Table, member: u8) -> Vec<u8> {
         .collect()
 }
 
+/// Two bytes for each entry.
+pub fn list_bytes(list: &[Entry]) -> Vec<u8> {
+    list.iter()
+        .flat_map(|&(target, rights)| [target, rights])
+        .collect()
+}
+
 /// The test of a place's member alone, with the list of what it holds: accepted.
 pub fn own_test(place: &Place) -> ConfinementCase {
     ConfinementCase {
         table: place.table.clone(),
         members: set::single(place.member),
         list: decode_list(&held_list(&place.table, place.member)),
+    }
+}
+
+/// Eight members that hold wk alone in all their 64 slots, over the 56 other objects, which hold nothing; the
+/// list is empty: accepted, with an empty bound.
+pub fn material_test() -> ConfinementCase {
+    let mut table = Table::unborn();
+    for (n, record) in table.records.iter_mut().enumerate() {
+        record.status = 1;
+        record.kind = u8::from(n >= 56);
+        record.word = n as u32;
+    }
+    for k in 0..64 {
+        table.records[56 + k / 8].slots[k % 8] = Capability::new(k as u8 % 56, WK);
+    }
+    ConfinementCase {
+        table,
+        members: set::of(56_u8..64),
+        list: Vec::new(),
     }
 }
 

@@ -6,11 +6,13 @@ use yavrinks_model::chain::chain;
 use yavrinks_model::confinement::confinement_test;
 use yavrinks_model::set;
 use yavrinks_model::step::step;
+use yavrinks_model::table::WK;
 use yavrinks_model::take_grant;
 use yavrinks_model::wire::decode_list;
 use yavrinks_peer::calls::{answer, Call};
 use yavrinks_peer::cases::samples;
-use yavrinks_peer::samples::{farthest, held_list, imports, own_test, places, requests, row};
+use yavrinks_peer::samples::{farthest, held_list, imports, material_test, own_test, places};
+use yavrinks_peer::samples::{requests, row};
 use yavrinks_tools::generate::{CONFINEMENT_NUMBERS, IMPORT_NUMBERS, SHOWN_NUMBERS};
 
 #[test]
@@ -34,6 +36,22 @@ fn both_tables_have_an_accepted_test() {
         assert_eq!(number, 0, "{}", place.name);
         assert_ne!(bound, 0, "{}", place.name);
     }
+}
+
+/// Every slot of its members has wk alone, over 56 objects, far more than a list has room for.
+#[test]
+fn the_test_with_64_wk_unlisted_is_accepted_with_an_empty_bound() {
+    let case = material_test();
+    assert!(case.list.is_empty());
+    let held: Vec<_> = set::numbers(case.members)
+        .flat_map(|member| case.table.record(member).slots)
+        .collect();
+    assert_eq!(held.len(), 64);
+    assert!(held.iter().all(|slot| slot.rights == WK));
+    let targets = set::of(held.iter().map(|slot| slot.target));
+    assert_eq!(targets, !case.members);
+    let found = confinement_test(&case.table, case.members, &case.list);
+    assert_eq!(found, (0, 0));
 }
 
 /// No object has a longer chain than the one that is measured, and none below it as long a one.

@@ -15,8 +15,8 @@ Usage: yavrinks-tools COMMAND
 Commands:
   confine   read an image, members and a list from standard input, and print
             `accepted` and the bound, one number a line, or `refused N`
-  definitions [--seed N] [--runs N] [--rounds N] [--imports N] [--keep DIR]
-            [--root DIR]
+  definitions [--seed N] [--runs N] [--rounds N] [--imports N] [--tests N]
+            [--keep DIR] [--root DIR]
             check the definitions of the repository against the model, with the
             toolchain's command `rt`; exit status 1 if an answer differs or
             could not be checked

@@ -10,7 +10,7 @@ use yavrinks_model::table::{Capability, Record, Table, WK};
 use yavrinks_tools::definitions::askers::askers;
 use yavrinks_tools::definitions::cases::{subjects, Answer, Case, Part, Question};
 use yavrinks_tools::definitions::crates::{case_crates, CaseCrate};
-use yavrinks_tools::definitions::draw::{questions, Counts};
+use yavrinks_tools::definitions::draw::{cases, questions, Counts};
 use yavrinks_tools::definitions::scratch::Scratch;
 use yavrinks_tools::definitions::specs::{unfoldable, unfoldable_names, with_all_below};
 use yavrinks_tools::definitions::statements::declarations;
@@ -19,16 +19,23 @@ use yavrinks_tools::definitions::wrong::wrong_cases;
 use yavrinks_tools::definitions::{summary, terms, Options};
 use yavrinks_tools::generate::{any_damage, any_sound_table, ConfinementCase, ShownCase};
 use yavrinks_tools::rng::Rng;
-use yavrinks_tools::shared::shared_imports;
+use yavrinks_tools::shared::{shared_imports, shared_tests};
+
+/// Nothing at all, for a test that asks for something by itself.
+const NOTHING: Counts = Counts {
+    runs: 0,
+    rounds: 0,
+    imports: 0,
+    tests: 0,
+};
 
 fn cases_of(seed: u64, runs: usize, rounds: usize) -> Vec<Case> {
     let counts = Counts {
         runs,
         rounds,
-        imports: 0,
+        ..NOTHING
     };
-    let questions = questions(seed, &counts);
-    questions.into_iter().map(Case::new).collect()
+    cases(seed, &counts)
 }
 
 fn default_cases() -> Vec<Case> {
@@ -243,6 +250,26 @@ fn a_least_chain_is_stated_over_words_of_links() {
     assert!(!text.contains("table-0005"), "{text}");
 }
 
+/// rd and wr are listed, in two entries: of the rights values 0 to 15 only those within them pass, and wk
+/// alone.
+#[test]
+fn capabilities_are_stated_with_whether_they_pass() {
+    let case = Case::new(Question::Passing {
+        list: vec![(3, 1), (3, 2)],
+        held: (0..16).map(|rights| Capability::new(3, rights)).collect(),
+    });
+    let text = declarations(&case, 5, "A.b").replace("\n    ", " ");
+    assert!(text.starts_with("-- case 5: rights of a member, refused 12\n"));
+    assert!(text.contains("list-0005 = slot 3 1 ∷ slot 3 2 ∷ []\n"));
+    assert!(text.contains("held-0005 = slot 3 0 ∷ slot 3 1 ∷ "));
+    let (passing, others) = (["true"; 5].join(" ∷ "), ["false"; 11].join(" ∷ "));
+    let statement = format!(
+        "case-0005 : _≡_ {{A = List Bool}} (map (passes list-0005) held-0005) \
+         ({passing} ∷ {others} ∷ [])\n"
+    );
+    assert!(text.contains(&statement), "{text}");
+}
+
 /// Entity 0 has Store and Grant to 1 in slot 1, and nothing that is kept in slot 0.
 #[test]
 fn an_import_is_stated_with_the_table_that_it_becomes() {
@@ -333,7 +360,7 @@ fn the_default_run_asks_everything() {
         .iter()
         .map(|case| (case.question.subject(), case.answer.number()))
         .collect();
-    let expected: [(&str, &[u8]); 19] = [
+    let expected: [(&str, &[u8]); 20] = [
         ("clean along a run", &[0]),
         ("1 read", &[0, 1, 2, 3, 4, 5, 6]),
         ("2 write", &[0, 1, 2, 3, 4, 5, 6]),
@@ -345,6 +372,7 @@ fn the_default_run_asks_everything() {
         ("8 destroy", &[0, 1, 2, 3, 4, 5, 6, 8]),
         ("unknown code", &[1, 2]),
         ("confinement test", &[0, 1, 10, 11, 12, 13]),
+        ("rights of a member", &[0, 12]),
         ("chain to an object", &[0, 1, 10, 11, 12, 13, 18, 19]),
         ("least chain", &[0]),
         ("potential access", &[0, 1]),
@@ -408,16 +436,46 @@ fn a_seed_settles_the_cases_and_each_kind_stands_alone() {
 
 #[test]
 fn shared_imports_are_asked_on_demand() {
-    let counts = |imports| Counts {
-        runs: 0,
-        rounds: 0,
-        imports,
-    };
+    let counts = |imports| Counts { imports, ..NOTHING };
     let asked = questions(1, &counts(1000));
     let import = |bytes| Question::Import { bytes };
     let shared: Vec<Question> = shared_imports().into_iter().map(import).collect();
     assert_eq!(asked, shared);
     assert_eq!(questions(1, &counts(7)), shared[..7]);
+}
+
+/// What the file says is expected, and the model says the same.
+#[test]
+fn shared_tests_are_asked_on_demand() {
+    let counts = |tests| Counts { tests, ..NOTHING };
+    let asked = cases(1, &counts(1000));
+    assert_eq!(asked.len(), 80);
+    for (case, shared) in asked.iter().zip(shared_tests()) {
+        let (number, bound) = shared.answer;
+        assert_eq!(case.answer, Answer::Bound(number, bound));
+        assert_eq!(case, &Case::new(Question::Test(shared.test)));
+    }
+    assert_eq!(cases(1, &counts(7)), asked[..7]);
+}
+
+/// Every rights value is asked with every list of one entry, with none, and with entries of another target.
+#[test]
+fn all_rights_are_asked_with_all_lists() {
+    let mut lists = BTreeSet::new();
+    for case in cases_of(1, 0, 1) {
+        let Question::Passing { list, held } = &case.question else {
+            continue;
+        };
+        let target = held[0].target;
+        let rights = (0..16).map(|rights| Capability::new(target, rights));
+        assert!(held.iter().copied().eq(rights));
+        let named = |&(n, listed): &(u8, u8)| (n == target, listed);
+        lists.insert(list.iter().map(named).collect::<Vec<_>>());
+    }
+    assert_eq!(lists.len(), 20);
+    assert!(lists.contains(&vec![]));
+    assert!((1..16).all(|listed| lists.contains(&vec![(true, listed)])));
+    assert!(lists.contains(&vec![(false, 15)]));
 }
 
 #[test]
@@ -431,8 +489,11 @@ fn wrong_answers_differ_from_the_right_ones() {
     assert_eq!(wrong.iter().filter(is_clean).count(), Part::ALL.len());
     let is_import = |case: &&Case| matches!(case.question, Question::Import { .. });
     assert_eq!(wrong.iter().filter(is_import).count(), 3);
+    // Of a list where all pass and of one where some do not, every rights value.
+    let is_passing = |case: &&Case| matches!(case.question, Question::Passing { .. });
+    assert_eq!(wrong.iter().filter(is_passing).count(), 2 * 16);
     // Of each of nine other kinds a wrong number and wrong content, of least chains wrong content.
-    assert_eq!(wrong.len(), Part::ALL.len() + 3 + 2 * 9 + 1);
+    assert_eq!(wrong.len(), Part::ALL.len() + 3 + 2 * 16 + 2 * 9 + 1);
 }
 
 /// Chains of one length compete in most of the least chains that are asked, and in some others.
@@ -715,6 +776,8 @@ fn options_are_read() {
         "5",
         "--imports",
         "160",
+        "--tests",
+        "80",
         "--keep",
         "/x",
         "--root",
@@ -722,7 +785,7 @@ fn options_are_read() {
     ];
     let options = Options::parse(&words).expect("options");
     assert_eq!((options.seed, options.counts.runs), (9, 5));
-    assert_eq!(options.counts.imports, 160);
+    assert_eq!((options.counts.imports, options.counts.tests), (160, 80));
     assert_eq!(options.counts.rounds, Counts::default().rounds);
     assert_eq!(options.keep, Some("/x".into()));
     assert_eq!(options.root, Path::new("/y"));

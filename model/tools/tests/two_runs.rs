@@ -13,14 +13,14 @@ use yavrinks_tools::generate::{
     CONFINEMENT_NUMBERS,
 };
 use yavrinks_tools::rng::Rng;
-use yavrinks_tools::two_runs::rules::{Access, Holders, Rules, StandIn, BROKEN};
+use yavrinks_tools::two_runs::rules::{Access, Naming, Rules, StandIn, Unlisted, BROKEN};
 use yavrinks_tools::two_runs::runs::Move;
 use yavrinks_tools::two_runs::shrink::{replay, shrink};
 use yavrinks_tools::two_runs::start::draw_start;
 use yavrinks_tools::two_runs::tally::Actor;
 use yavrinks_tools::two_runs::trial::{draw_pair, try_pairs, Drawn};
 
-/// Pairs within which a broken model must be caught. A few hundred are enough.
+/// Pairs within which a broken model must be caught. For most a few hundred are enough.
 const LIMIT: u64 = 20_000;
 
 #[test]
@@ -31,6 +31,10 @@ fn the_model_keeps_the_claim() {
     assert!(trial.lengths_differ > 400 && trial.starts_differ > 400);
     assert!(trial.bound_not_empty > 300 && trial.ends_differ > 500);
     assert!(trial.made_clean > 300 && trial.tally.of_clean_by_others > 1000);
+    assert!(trial.unlisted_in_one > 100 && trial.unlisted_in_both > 100);
+    assert!(2 * (trial.unlisted_in_one + trial.unlisted_in_both) > trial.pairs);
+    assert!(trial.used_in_one > 100);
+    assert!(trial.tally.unlisted_reads > 100 && trial.tally.unlisted_fetches > 100);
     for code in 1..=8 {
         let (clean, others) = trial.tally.by_code(code);
         let counts = [clean.done, clean.refused, others.done, others.refused];
@@ -69,7 +73,7 @@ fn requests(drawn: &Drawn, second: bool) -> Vec<Request> {
     drawn.moves.iter().filter_map(of_run).collect()
 }
 
-/// No start is lost because of what members hold in one table: both tests answer alike.
+/// Both tests answer alike, unless a member was given something that does not pass in one table.
 #[test]
 fn start_tables_differ_in_members_alone() {
     let mut rng = Rng::new(50);
@@ -79,13 +83,15 @@ fn start_tables_differ_in_members_alone() {
         for n in set::numbers(!start.members) {
             assert_eq!(start.first.record(n), start.second.record(n));
         }
-        let found = confinement_test(&start.first, start.members, &start.list);
+        let first = confinement_test(&start.first, start.members, &start.list);
         let second = confinement_test(&start.second, start.members, &start.list);
-        assert_eq!(found, second);
-        numbers[usize::from(found.0)] += 1;
+        assert!(first == second || first.0 == 12 || second.0 == 12);
+        numbers[usize::from(first.0.max(second.0))] += 1;
     }
-    // A passive object that names a member is there for one of the broken models.
-    assert!(numbers[13] > 50 && numbers[0] + numbers[13] == 2000);
+    // What is refused is there for some of the broken models.
+    let refused = numbers[12] + numbers[13];
+    assert!(numbers[12] > 50 && numbers[13] > 50, "{numbers:?}");
+    assert!(refused < 700 && numbers[0] + refused == 2000, "{numbers:?}");
 }
 
 /// The claim once more, as document 01 states it: about two whole lists, with the model's
@@ -166,7 +172,8 @@ fn a_broken_rule_leaves_the_rest_as_it_is() {
     for broken in &BROKEN {
         let rules = &broken.rules;
         let test_is_whole = rules.access == Access::AsWritten
-            && rules.holders == Holders::All
+            && rules.unlisted == Unlisted::WkAlone
+            && rules.naming == Naming::All
             && rules.stand_in == StandIn::List;
         for _ in 0..300 {
             let table = any_sound_table(&mut rng);

@@ -11,7 +11,7 @@ use yavrinks_model::image::{read, write};
 use yavrinks_model::step::{step, step_in_place, Request};
 use yavrinks_model::take_grant::import;
 use yavrinks_tools::generate::can_meet;
-use yavrinks_tools::shared::shared_imports;
+use yavrinks_tools::shared::{shared_imports, shared_tests};
 use yavrinks_tools::vectors::{
     access_cases, chain, edges, image_cases, import_cases, output, parts, shown_cases, step_cases,
     test_cases, write_cases,
@@ -147,6 +147,8 @@ fn tests_reach_every_verdict() {
         assert!(cases.iter().any(|case| case.list.len() == length));
     }
     assert!(cases.iter().any(|case| case.list.len() == 255));
+    let shared = shared_tests();
+    assert!(shared.iter().all(|shared| cases.contains(&shared.test)));
 }
 
 #[test]

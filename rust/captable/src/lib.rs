@@ -78,6 +78,41 @@
 //! has to say so: [`Table::step_as`] takes the actor apart from the bytes and overwrites theirs.
 //! [`Table::step_bytes`] believes them, and is for bytes that the firmware wrote itself.
 //!
+//! # What needs an entry
+//!
+//! The list of a [test](Table::test) has up to eight entries, each a target and rights. What a member holds
+//! over a non-member needs an entry, unless its rights are exactly wk:
+//!
+//! | rights over a non-member | have to be listed for it |
+//! |---|---|
+//! | wk and no other | nothing |
+//! | rd, wr, tx, one of them or more | each of them |
+//! | wk and others, as 5 (rd and wk), 6 or 12 | each of them, wk too |
+//!
+//! If a right is missing that has to be listed, the test is refused by 12. An entry with wk alone is allowed: it
+//! takes one of the eight places, and the bound is the same with it and without it. The bound is worked from the
+//! list, and not from what the members hold.
+//!
+//! ```
+//! use captable::{Capability, Set, Table, TestRefusal, ALIVE, RD, WK};
+//!
+//! // The routine 0 reads a material table, object 9, through wk alone.
+//! let mut table = Table::unborn();
+//! table.record_mut(0).status = ALIVE;
+//! table.record_mut(9).status = ALIVE;
+//! let (routine, weak) = (Set::of(&[0]), Capability { target: 9, rights: WK });
+//! *table.slot_mut(0, 0) = weak;
+//! assert_eq!(table.test(routine, &[]), Ok(Set::EMPTY));
+//! assert_eq!(table.test(routine, &[weak]), Ok(Set::EMPTY));
+//!
+//! // With rd beside it, both have to be listed.
+//! *table.slot_mut(0, 0) = Capability { target: 9, rights: RD | WK };
+//! let rd = Capability { target: 9, rights: RD };
+//! assert_eq!(table.test(routine, &[]), Err(TestRefusal::RightUnlisted));
+//! assert_eq!(table.test(routine, &[rd]), Err(TestRefusal::RightUnlisted));
+//! assert_eq!(table.test(routine, &[rd, weak]), Ok(Set::of(&[9])));
+//! ```
+//!
 //! # What it links
 //!
 //! `libcaptable.a` from the folder that the variable `CAPTABLE_LIB_DIR` names by an absolute path, or else
@@ -120,7 +155,7 @@ pub const SLOTS: u8 = 8;
 pub const IMAGE_BYTES: usize = 1923;
 /// The length of the longest import in bytes: 64 entities with eight capabilities each.
 pub const IMPORT_BYTES: usize = 1092;
-/// The most entries that the list of a test may have.
+/// The most entries that the list of a test may have. What a member holds with [`WK`] alone needs none.
 pub const MAX_ENTRIES: usize = 8;
 
 /// Status of a number that no object has yet.
@@ -139,14 +174,15 @@ pub const ACTIVE: u8 = 1;
 pub const RD: u8 = 1;
 /// The right to write.
 pub const WR: u8 = 2;
-/// The weak right: reading that passes on nothing stronger than itself.
+/// The weak right: reading that passes on nothing stronger than itself. Who holds it alone influences nobody
+/// by it, and a [test](Table::test) asks for no entry for it.
 pub const WK: u8 = 4;
 /// The right to send.
 pub const TX: u8 = 8;
 
 /// The version of the calls that this crate was written for: 65,536 times the first number, 256 times the
 /// second, and the third.
-pub const VERSION: u32 = 0x00_03_00;
+pub const VERSION: u32 = 0x00_04_00;
 
 /// The version of the calls that were linked. Where it is not [`VERSION`], the archive is another than the
 /// crate was written for.

@@ -83,7 +83,8 @@ pub struct Relation {
 #[repr(C)]
 #[derive(Clone, Copy, Debug, PartialEq, Eq)]
 pub struct Finding {
-    /// The non-members that the members can ever influence, bit n for number n; empty on a refusal.
+    /// The non-members that the members can ever influence, bit n for number n; empty on a refusal. Worked
+    /// from the list, and not from what the members hold.
     pub bound: u64,
     /// 0 for accepted, or why the test was refused.
     pub number: u8,
@@ -122,7 +123,8 @@ extern "C" {
     pub fn captable_step_by_value(table: Table, request: *const u8, length: usize) -> Outcome;
     /// Potential access of a table.
     pub fn captable_access(table: Table) -> Relation;
-    /// The confinement test of a set of members and a list, two bytes for each entry.
+    /// The confinement test of a set of members and a list, two bytes for each entry. What a member holds with
+    /// wk alone needs no entry.
     ///
     /// # Safety
     /// `list` points to `length` bytes.

@@ -83,8 +83,10 @@ refusals! {
         MembersInvalid = 10, "there is no member, or one is not alive";
         /// The list has more than eight entries, or an entry is no right over a born non-member.
         ListInvalid = 11, "the list is too long, or an entry is invalid";
-        /// A member holds a right over a non-member that the list does not have.
-        RightUnlisted = 12, "a member holds a right that is not listed";
+        /// A member's capability to a non-member has a right that is not listed for it, and its rights are
+        /// not exactly wk. A capability with wk alone needs no entry; one with wk and another right, as rights
+        /// 5, 6 or 12, needs every right listed, wk too.
+        RightUnlisted = 12, "a member holds a right that is not listed; a capability with wk alone needs no entry";
         /// A non-member holds a capability that names a member.
         MemberHeld = 13, "a non-member holds a capability naming a member";
     }
@@ -99,8 +101,10 @@ refusals! {
         MembersInvalid = 10, "there is no member, or one is not alive";
         /// The list has more than eight entries, or an entry is no right over a born non-member.
         ListInvalid = 11, "the list is too long, or an entry is invalid";
-        /// A member holds a right over a non-member that the list does not have.
-        RightUnlisted = 12, "a member holds a right that is not listed";
+        /// A member's capability to a non-member has a right that is not listed for it, and its rights are
+        /// not exactly wk. A capability with wk alone needs no entry; one with wk and another right, as rights
+        /// 5, 6 or 12, needs every right listed, wk too.
+        RightUnlisted = 12, "a member holds a right that is not listed; a capability with wk alone needs no entry";
         /// A non-member holds a capability that names a member.
         MemberHeld = 13, "a non-member holds a capability naming a member";
         /// The object's number is above 63, unborn or a member.

@@ -201,11 +201,19 @@ impl Table {
         Ok(Relation::new(relation.rows))
     }
 
-    /// The confinement test: the non-members that the members can ever influence, if they hold no more
-    /// over non-members than the list has.
+    /// The confinement test: the non-members that the members can ever influence, if over non-members they
+    /// hold no more than the list has, wk alone not counted.
+    ///
+    /// A member's capability to a non-member needs an entry, unless its rights are exactly wk: every right of
+    /// it has to be listed for its target, in one entry or in several. Beside another right wk has to be
+    /// listed too. A capability with rights exactly wk needs no entry; an entry with wk alone is allowed
+    /// and leaves the bound as it is. The bound is worked from the list, and not from what the members hold. See
+    /// [what needs an entry](crate#what-needs-an-entry).
     ///
     /// # Errors
-    /// 1 for a table that is not sound, and 10 to 13, the first cause in number order.
+    /// 1 for a table that is not sound, and 10 to 13, the first cause in number order: 12 for a right that
+    /// needs an entry and is not listed, 13 for a non-member's capability that names a member, whatever its
+    /// rights are.
     pub fn test(&self, members: Set, list: &[Capability]) -> Result<Set, TestRefusal> {
         let list = ListBytes::new(list);
         // SAFETY: the length is within the array.
@@ -220,7 +228,7 @@ impl Table {
     /// chains of one length it is the one whose numbers come first, compared from the stand-in's end.
     ///
     /// Each link is one capability that a non-member holds or that is listed: rd, wr and tx lead either
-    /// way, wk from target to holder.
+    /// way, wk from target to holder. So what a member holds without an entry, which is wk alone, is no link.
     ///
     /// ```
     /// # let mut table = captable::Table::unborn();

@@ -1,4 +1,4 @@
-//! The examples of document 01, through the wrapper.
+//! The examples of document 01, through the wrapper; example 2 as document 02, 2.3, amends it.
 
 mod common;
 
@@ -14,6 +14,7 @@ fn the_test_of_examples_1_to_5() {
     let mut weak = k();
     *weak.slot_mut(5, 0) = cap(1, WK);
     assert_eq!(weak.test(set(&[5]), &[cap(1, WK)]), Ok(set(&[])));
+    assert_eq!(weak.test(set(&[5]), &[]), Ok(set(&[])));
     assert_eq!(k().test(set(&[5]), &[]), Err(TestRefusal::RightUnlisted));
     let mut held = k();
     *held.slot_mut(0, 1) = cap(5, WK);

@@ -156,13 +156,21 @@ fn reason(header: &str, name: &str) -> String {
 }
 
 #[test]
-fn the_header_gives_the_same_reasons_from_18_on() {
+fn the_header_gives_the_same_reasons_for_tests_and_from_18_on() {
     let header = include_str!("../../../include/captable.h");
     let same = |number: u8, cause: &dyn Debug, told: &dyn Display| {
         let name = in_c(&format!("{cause:?}"));
         let reason = format!("refused {number}: {}", reason(header, &name));
         assert_eq!(told.to_string(), reason);
     };
+    for refusal in [
+        TestRefusal::MembersInvalid,
+        TestRefusal::ListInvalid,
+        TestRefusal::RightUnlisted,
+        TestRefusal::MemberHeld,
+    ] {
+        same(refusal.number(), &refusal, &refusal);
+    }
     for refusal in [ChainRefusal::ObjectInvalid, ChainRefusal::OutsideBound] {
         same(refusal.number(), &refusal, &refusal);
     }

@@ -1,14 +1,14 @@
-//! The boundary itself: both forms of the step agree, no bytes at all may come with a null pointer, a chain
-//! has zeros after its numbers, an import that is refused gives the unborn table, and what `confine` prints
-//! leaves the rest of its buffer.
+//! The boundary itself: both forms of the step agree, no bytes at all may come with a null pointer, also
+//! where they are a list that is accepted, a chain has zeros after its numbers, an import that is refused
+//! gives the unborn table, and what `confine` prints leaves the rest of its buffer.
 
 mod common;
 
 use captable::raw::{
     captable_chain, captable_confine, captable_import, captable_read, captable_step,
-    captable_step_by_value, captable_test, captable_write, Outcome, Shown,
+    captable_step_by_value, captable_test, captable_write, Finding, Outcome, Shown,
 };
-use captable::{Table, ACTIVE, ALIVE, WR};
+use captable::{Table, ACTIVE, ALIVE, WK, WR};
 use common::{cap, k, set};
 use std::ptr::{null, null_mut};
 
@@ -62,6 +62,27 @@ fn no_bytes_may_come_with_a_null_pointer() {
     assert_eq!(table, k());
     assert_eq!(&printed[..11], b"refused 17\n");
     assert_eq!(printed[11..], [0xaa; 245]);
+}
+
+/// Example 2 of document 01: "with the list empty, example 2 is accepted too" (document 02, 2.3).
+#[test]
+fn no_list_at_all_is_enough_for_wk() {
+    let mut weak = k();
+    *weak.slot_mut(5, 0) = cap(1, WK);
+    let members = set(&[5]).bits();
+    // SAFETY: a length of 0 asks for no byte.
+    let (found, shown) = unsafe {
+        (
+            captable_test(*weak.as_raw(), members, null(), 0),
+            captable_chain(*weak.as_raw(), members, null(), 0, 1),
+        )
+    };
+    let accepted = Finding {
+        bound: 0,
+        number: 0,
+    };
+    assert_eq!(found, accepted);
+    assert_eq!((shown.number, shown.count), (19, 0));
 }
 
 #[test]

@@ -12,10 +12,15 @@ const HELP: &str = "\
 Usage: yavrinks confine [FILE]
 
 Which objects can a subsystem ever influence, if its members hold no more over
-others than a list says? Reads from FILE, or from standard input: an image of
-1,923 bytes, the members (8 bytes, bit n for object n, the most significant byte
-first), a count byte, and 2 bytes (target, rights) for each entry of the list.
-Prints `accepted` and then those objects, one number a line; or `refused N`.
+others than a list says, wk alone not counted? Reads from FILE, or from standard
+input: an image of 1,923 bytes, the members (8 bytes, bit n for object n, the most
+significant byte first), a count byte, and 2 bytes (target, rights) for each entry
+of the list. Prints `accepted` and then those objects, one number a line; or
+`refused N`.
+
+What a member holds over an object outside with wk alone (rights 4) needs no entry.
+All else that it holds outside needs every right listed, wk too where it is beside
+others (rights 5, 6, 12): `refused 12` if one is missing.
 
 The exit status is 0 for accepted, 1 for refused, and 2 where nothing was decided
 or the answer could not be printed: then a message is on standard error.

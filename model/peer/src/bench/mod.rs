@@ -10,7 +10,7 @@ use std::process::ExitCode;
 
 use yavrinks_tools::progress::Progress;
 
-use crate::samples::{imports, places, requests, row, Place};
+use crate::samples::{imports, material_test, places, requests, row, Place};
 use measure::{Figures, ROUNDS};
 
 /// The most that a lent step should take, in scans.
@@ -21,8 +21,8 @@ const NOTE: &str = "\
 Nanoseconds a call are the least of the rounds. Below 1.00 the proved call is faster. Middle, low and
 high are of the ratios of the single rounds. By value both sides copy the table. Lent, an allocate and a
 destroy are undone after each call, on both sides alike. The time of the scan in C stands under proved.
-A chain is that to the object farthest off. A full import has 64 entities of eight capabilities, a small
-one three entities.
+A chain is that to the object farthest off. With 64 wk unlisted, eight members hold wk alone in all their
+slots and the list is empty. A full import has 64 entities of eight capabilities, a small one three.
 ";
 
 /// Times everything and prints a line a call.
@@ -34,7 +34,7 @@ pub fn command() -> ExitCode {
         .sum();
     // The chain against the test, and on the row against the model too.
     let chains = places.len() + 2;
-    let all = 3 * each + places.len() * wholes::ALL.len() + chains + imports().len();
+    let all = 3 * each + places.len() * wholes::ALL.len() + 1 + chains + imports().len();
     eprintln!("bench: {all} calls to be timed, about a tenth of a second each");
     let mut timing = Timing::new(all as u64);
 
@@ -53,6 +53,9 @@ pub fn command() -> ExitCode {
             timing.on(place, name, || figures(place));
         }
     }
+    timing.line("confinement test, 64 wk unlisted", || {
+        wholes::test_of(&material_test())
+    });
     timing.on(&row(), "chain", || wholes::chain(&row()));
     for import in imports() {
         let name = format!("import {}", import.name);

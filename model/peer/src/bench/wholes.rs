@@ -13,7 +13,7 @@ use yavrinks_tools::generate::ConfinementCase;
 use super::measure::{in_turn, Figures};
 use crate::archive::{Archive, Calls};
 use crate::convert::to_raw;
-use crate::samples::{farthest, held_list, own_test, Place};
+use crate::samples::{farthest, list_bytes, own_test, Place};
 
 /// Takes the figures of one call.
 type Take = fn(&Place) -> Figures;
@@ -56,7 +56,12 @@ fn scan(place: &Place) -> Figures {
 
 /// The test of the member that nobody else names, with the list of what it holds: accepted.
 fn test(place: &Place) -> Figures {
-    let (mut asked, case) = (Asked::new(place), own_test(place));
+    test_of(&own_test(place))
+}
+
+/// The test of a case.
+pub fn test_of(case: &ConfinementCase) -> Figures {
+    let mut asked = Asked::new(case);
     in_turn(
         || asked.test(),
         || {
@@ -69,8 +74,9 @@ fn test(place: &Place) -> Figures {
 
 /// Of the same test, the chain to the object farthest off.
 pub fn chain(place: &Place) -> Figures {
-    let (mut asked, case) = (Asked::new(place), own_test(place));
-    let object = asked.object;
+    let case = own_test(place);
+    let mut asked = Asked::new(&case);
+    let object = asked.object();
     in_turn(
         || asked.chain(),
         || {
@@ -87,27 +93,33 @@ pub fn chain(place: &Place) -> Figures {
 
 /// The chain against the test that it begins with.
 pub fn chain_against_test(place: &Place) -> Figures {
-    let (mut asked, mut tested) = (Asked::new(place), Asked::new(place));
+    let case = own_test(place);
+    let (mut asked, mut tested) = (Asked::new(&case), Asked::new(&case));
     in_turn(|| asked.chain(), || tested.test())
 }
 
-/// What the archive is asked of a place's own test.
+/// What the archive is asked of a test.
 struct Asked {
     table: raw::Table,
     members: u64,
     list: Vec<u8>,
-    object: u8,
+    /// The object farthest off, if the bound has one.
+    object: Option<u8>,
 }
 
 impl Asked {
-    fn new(place: &Place) -> Asked {
-        let case = own_test(place);
+    fn new(case: &ConfinementCase) -> Asked {
         Asked {
             table: to_raw(&case.table),
             members: case.members,
-            list: held_list(&place.table, place.member),
-            object: farthest(&case).expect("the member holds something"),
+            list: list_bytes(&case.list),
+            object: farthest(case),
         }
+    }
+
+    fn object(&self) -> u8 {
+        self.object
+            .expect("a chain is asked where the bound has an object")
     }
 
     fn test(&mut self) {
@@ -117,8 +129,8 @@ impl Asked {
     }
 
     fn chain(&mut self) {
+        let object = black_box(self.object());
         let (members, list) = (black_box(self.members), black_box(&mut self.list));
-        let object = black_box(self.object);
         let shown = Archive.chain(black_box(&mut self.table), members, list, object);
         black_box(&shown);
     }

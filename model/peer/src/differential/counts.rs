@@ -65,19 +65,36 @@ impl Line {
     }
 }
 
-/// How often each line had each number.
+/// The lines that are tests or begin with one.
+const TESTS: [Line; 3] = [Line::Test, Line::Chain, Line::Confine];
+
+/// How often each line had each number: in all, and of tests those where a member holds wk alone that the
+/// list lacks.
 #[derive(Clone, Debug, Default, PartialEq, Eq)]
-pub struct Counts([[u64; NUMBERS]; LINES]);
+pub struct Counts {
+    all: [[u64; NUMBERS]; LINES],
+    unlisted: [[u64; NUMBERS]; LINES],
+}
 
 impl Counts {
     /// Counts one answer. No call gives a number above 22.
     pub fn add(&mut self, line: Line, number: u8) {
-        self.0[line.place()][usize::from(number)] += 1;
+        self.all[line.place()][usize::from(number)] += 1;
+    }
+
+    /// Counts apart an answer to a test where a member holds wk alone that the list lacks.
+    pub fn add_unlisted(&mut self, line: Line, number: u8) {
+        self.unlisted[line.place()][usize::from(number)] += 1;
     }
 
     /// How often the line had the number.
     pub fn of(&self, line: Line, number: u8) -> u64 {
-        self.0[line.place()][usize::from(number)]
+        self.all[line.place()][usize::from(number)]
+    }
+
+    /// How often it had the number where a member holds wk alone that the list lacks.
+    pub fn of_unlisted(&self, line: Line, number: u8) -> u64 {
+        self.unlisted[line.place()][usize::from(number)]
     }
 }
 
@@ -85,10 +102,15 @@ impl fmt::Display for Counts {
     fn fmt(&self, out: &mut fmt::Formatter<'_>) -> fmt::Result {
         let names = names();
         let (requests, others) = names.split_at(FIRST_OTHER);
-        let (replies, numbers) = self.0.split_at(FIRST_OTHER);
+        let (replies, numbers) = self.all.split_at(FIRST_OTHER);
         write_part(out, "requests by reply", requests, replies)?;
         writeln!(out)?;
-        write_part(out, "other calls by number", others, numbers)
+        write_part(out, "other calls by number", others, numbers)?;
+        writeln!(out)?;
+        let tests = TESTS.map(Line::place);
+        let unlisted = tests.map(|place| self.unlisted[place]);
+        let names = tests.map(|place| names[place].clone());
+        write_part(out, "of these with unlisted wk", &names, &unlisted)
     }
 }
 

@@ -9,6 +9,8 @@ mod facts;
 mod inputs;
 mod steps;
 mod sweep;
+mod unlisted;
+mod weak;
 mod wholes;
 
 pub use counts::{Counts, Line};
@@ -30,9 +32,15 @@ use course::Course;
 use draw::any_bytes;
 use inputs::Source;
 use sweep::sweep;
+use unlisted::count_input;
 
 /// After so many requests the other calls are compared on the table as it is.
 const BETWEEN_SWEEPS: u64 = 512;
+
+/// What the last part of the counts is.
+const UNLISTED: &str = "\
+unlisted wk: a member holds wk alone over a non-member, and the list has no wk for it. Under 0 such
+tests were accepted and such chains shown, under 12 another capability was refused beside it";
 
 /// A difference, and the place in the run where it was met.
 #[derive(Debug)]
@@ -53,9 +61,9 @@ pub fn command(seed: u64, requests: u64, inputs: u64) -> ExitCode {
                 "seed {seed}: {requests} requests, each lent and by value; {inputs} images read;"
             );
             println!(
-                "{inputs} imports; {inputs} inputs of confine; the other calls after each {BETWEEN_SWEEPS} requests\n"
+                "{inputs} imports; {inputs} inputs of confine; the other calls after each {BETWEEN_SWEEPS} requests"
             );
-            println!("{counts}\nno difference");
+            println!("{UNLISTED}\n\n{counts}\nno difference");
             ExitCode::SUCCESS
         }
         Err(found) => {
@@ -137,7 +145,7 @@ pub fn compare_inputs(
         let mut buffer = [0; 256];
         buffer.copy_from_slice(&any_bytes(&mut rng, 256));
         let number = compare_confine(calls, &input, &buffer).map_err(found("input of confine"))?;
-        counts.add(Line::Confine, number);
+        count_input(counts, number, &input);
     }
     Ok(())
 }

@@ -2,8 +2,8 @@
 
 use yavrinks_model::confinement::Entry;
 use yavrinks_model::table::Table;
-use yavrinks_tools::generate::{confinement_case, damaged_table, import_case, shown_case};
-use yavrinks_tools::generate::{ConfinementCase, Damage};
+use yavrinks_tools::generate::{born_non_members, confinement_case, damaged_table};
+use yavrinks_tools::generate::{import_case, shown_case, ConfinementCase, Damage};
 use yavrinks_tools::generate::{CONFINEMENT_NUMBERS, IMPORT_NUMBERS, SHOWN_NUMBERS};
 use yavrinks_tools::rng::Rng;
 
@@ -11,9 +11,12 @@ use super::counts::{Counts, Line};
 use super::course::put_anything;
 use super::draw::any_bytes;
 use super::facts::Compared;
+use super::unlisted::{count_test, Test};
+use super::weak::{weak_case, Beside};
 use super::wholes::{compare_access, compare_chain, compare_import, compare_sound};
 use super::wholes::{compare_test, compare_write};
 use crate::archive::Calls;
+use crate::samples::list_bytes;
 
 /// The calls on a whole table: the one given, and others that are aimed at each number.
 pub fn sweep(
@@ -40,10 +43,13 @@ pub fn sweep(
     };
     let buffer = any_bytes(rng, length as usize);
     counts.add(Line::Write, compare_write(calls, table, &buffer)?);
-    compare_imports(calls, &mut Rng::new(rng.clone().bits()), counts)
+    // Generators of their own, since nothing else hangs on what follows.
+    let bits = rng.clone().bits();
+    compare_imports(calls, &mut Rng::new(bits), counts)?;
+    compare_weak(calls, &mut Rng::new(!bits), table, counts)
 }
 
-/// An import for each number. They have a generator of their own, since nothing else hangs on them.
+/// An import for each number.
 fn compare_imports(calls: &impl Calls, rng: &mut Rng, counts: &mut Counts) -> Compared<()> {
     for aim in IMPORT_NUMBERS {
         let bytes = import_case(rng, aim);
@@ -60,10 +66,22 @@ fn compare_tests(
     counts: &mut Counts,
 ) -> Compared<()> {
     let (members, list) = loose_test(rng, table);
-    counts.add(Line::Test, compare_test(calls, table, members, &list)?);
+    one_test(calls, (table, members, &list), counts)?;
     let (case, list) = aimed_test(rng);
-    let number = compare_test(calls, &case.table, case.members, &list)?;
-    counts.add(Line::Test, number);
+    one_test(calls, (&case.table, case.members, &list), counts)
+}
+
+fn one_test(calls: &impl Calls, test: Test, counts: &mut Counts) -> Compared<()> {
+    let (table, members, list) = test;
+    let number = compare_test(calls, table, members, list)?;
+    count_test(counts, Line::Test, number, test);
+    Ok(())
+}
+
+fn one_chain(calls: &impl Calls, test: Test, object: u8, counts: &mut Counts) -> Compared<()> {
+    let (table, members, list) = test;
+    let number = compare_chain(calls, table, members, list, object)?;
+    count_test(counts, Line::Chain, number, test);
     Ok(())
 }
 
@@ -88,16 +106,13 @@ fn loose_test(rng: &mut Rng, table: &Table) -> (u64, Vec<u8>) {
 fn aimed_test(rng: &mut Rng) -> (ConfinementCase, Vec<u8>) {
     let aim = rng.pick(&CONFINEMENT_NUMBERS).unwrap_or(0);
     let case = confinement_case(rng, aim);
-    let list = list_bytes(rng, &case.list);
+    let list = loose_bytes(rng, &case.list);
     (case, list)
 }
 
 /// The bytes of a list. One in ten has an odd byte at the end or is much too long.
-fn list_bytes(rng: &mut Rng, entries: &[Entry]) -> Vec<u8> {
-    let entries = entries.iter();
-    let mut list: Vec<u8> = entries
-        .flat_map(|&(target, rights)| [target, rights])
-        .collect();
+fn loose_bytes(rng: &mut Rng, entries: &[Entry]) -> Vec<u8> {
+    let mut list = list_bytes(entries);
     if rng.percent(10) {
         let more = rng.pick(&[1, 1, 2, 17, 300]).unwrap_or(1);
         list.extend(any_bytes(rng, more));
@@ -114,13 +129,35 @@ fn compare_chains(
 ) -> Compared<()> {
     let (members, list) = loose_test(rng, table);
     let object = rng.byte(0, 80);
-    let number = compare_chain(calls, table, members, &list, object)?;
-    counts.add(Line::Chain, number);
+    one_chain(calls, (table, members, &list), object, counts)?;
     for aim in [0, rng.pick(&SHOWN_NUMBERS).unwrap_or(0)] {
         let case = shown_case(rng, aim);
-        let (test, list) = (&case.test, list_bytes(rng, &case.test.list));
-        let number = compare_chain(calls, &test.table, test.members, &list, case.object)?;
-        counts.add(Line::Chain, number);
+        let (test, list) = (&case.test, loose_bytes(rng, &case.test.list));
+        let asked = (&test.table, test.members, list.as_slice());
+        one_chain(calls, asked, case.object, counts)?;
+    }
+    Ok(())
+}
+
+/// On the table as it is, tests in which members hold wk alone, and of each the chain to a listed object or to
+/// any other.
+fn compare_weak(
+    calls: &impl Calls,
+    rng: &mut Rng,
+    table: &Table,
+    counts: &mut Counts,
+) -> Compared<()> {
+    for beside in Beside::ALL {
+        let Some(case) = weak_case(rng, table, beside) else {
+            continue;
+        };
+        let list = list_bytes(&case.list);
+        let asked = (&case.table, case.members, list.as_slice());
+        one_test(calls, asked, counts)?;
+        let listed = rng.pick(&case.list).map(|entry| entry.0);
+        let outside = born_non_members(&case.table, case.members);
+        let object = listed.filter(|_| rng.percent(50)).or(rng.pick(&outside));
+        one_chain(calls, asked, object.unwrap_or(0), counts)?;
     }
     Ok(())
 }

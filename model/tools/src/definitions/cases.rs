@@ -1,15 +1,16 @@
 //! The cases: what the definitions are asked, and what the model answers.
-//! Every expected value is computed here, by the model.
+//! Every expected value is computed here, by the model; only the shared tests come with their own.
 
 use crate::generate::{ConfinementCase, ShownCase};
 use crate::rows::rows;
 use yavrinks_model::access::potential_access;
 use yavrinks_model::chain::chain;
-use yavrinks_model::confinement::{confinement_test, Entry, MAX_ENTRIES};
+use yavrinks_model::confinement::{confinement_test, passes, Entry, MAX_ENTRIES};
 use yavrinks_model::image::{read, write};
+use yavrinks_model::refusal::Refusal;
 use yavrinks_model::runs::{clean_at_start, clean_part, run, CleanPart};
 use yavrinks_model::step::{step, Code, Request};
-use yavrinks_model::table::Table;
+use yavrinks_model::table::{Capability, Table};
 use yavrinks_model::take_grant::import;
 use yavrinks_model::wire;
 
@@ -44,6 +45,11 @@ pub enum Question {
         requests: Vec<Request>,
     },
     Test(ConfinementCase),
+    /// Which of some capabilities pass, where a member holds them to non-members.
+    Passing {
+        list: Vec<Entry>,
+        held: Vec<Capability>,
+    },
     Chain(ShownCase),
     /// The least chain over the links of a case, as 64 words; the case is one whose chain is shown.
     LeastChain(ShownCase),
@@ -80,6 +86,8 @@ pub enum Answer {
     /// The replies of a run and its last table.
     Run(Vec<u8>, Table),
     Bound(u8, u64),
+    /// For each capability, whether it passes; where one does not, this counts as refused by 12.
+    Passing(Vec<bool>),
     /// The object numbers of a chain.
     Chain(u8, Vec<u8>),
     /// The rows of a relation.
@@ -110,6 +118,7 @@ const CLEAN: &str = "clean along a run";
 const UNKNOWN: &str = "unknown code";
 const RUN: &str = "run, last reply";
 const TEST: &str = "confinement test";
+const PASSING: &str = "rights of a member";
 const CHAIN: &str = "chain to an object";
 const LEAST_CHAIN: &str = "least chain";
 const ACCESS: &str = "potential access";
@@ -123,7 +132,7 @@ const LIST_BYTES: &str = "list as bytes";
 pub fn subjects() -> Vec<String> {
     let mut subjects = vec![CLEAN.to_string()];
     subjects.extend(Code::ALL.map(Code::label));
-    let wholes = [UNKNOWN, RUN, TEST, CHAIN, LEAST_CHAIN, ACCESS];
+    let wholes = [UNKNOWN, RUN, TEST, PASSING, CHAIN, LEAST_CHAIN, ACCESS];
     let bytes = [READ, WRITTEN, IMPORT, REQUEST_BYTES, LIST_BYTES];
     subjects.extend(wholes.into_iter().chain(bytes).map(String::from));
     subjects
@@ -144,6 +153,9 @@ impl Question {
             Question::Test(case) => {
                 let (number, bound) = confinement_test(&case.table, case.members, &case.list);
                 Answer::Bound(number, bound)
+            }
+            Question::Passing { list, held } => {
+                Answer::Passing(held.iter().map(|&one| passes(list, one)).collect())
             }
             Question::Chain(ShownCase { test, object })
             | Question::LeastChain(ShownCase { test, object }) => {
@@ -176,6 +188,7 @@ impl Question {
             },
             Question::Run { .. } => RUN,
             Question::Test { .. } => TEST,
+            Question::Passing { .. } => PASSING,
             Question::Chain { .. } => CHAIN,
             Question::LeastChain { .. } => LEAST_CHAIN,
             Question::Access { .. } => ACCESS,
@@ -201,7 +214,8 @@ impl Answer {
             Answer::Run(replies, _) => replies.last().copied().unwrap_or(0),
             Answer::Ask(Request::Unknown { .. }) => 2,
             Answer::Entries(list) if list.len() > MAX_ENTRIES => 11,
-            Answer::Clean(..) | Answer::Ask(_) | Answer::Entries(_) => 0,
+            Answer::Passing(all) if all.contains(&false) => Refusal::RightNotListed.number(),
+            Answer::Clean(..) | Answer::Ask(_) | Answer::Entries(_) | Answer::Passing(_) => 0,
         }
     }
 }

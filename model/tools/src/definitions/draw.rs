@@ -1,15 +1,16 @@
 //! Draws the questions of a run from the package's generators, so that every request code and every
 //! refusal is asked in turn.
 
-use super::cases::Question;
+use super::cases::{Answer, Case, Question};
 use super::clean::clean_run;
+use super::passing::{passing, PASSING_LISTS};
 use crate::generate::{
     any_damage, any_sound_table, can_meet, confinement_case, full_import, image_case, import_case,
     layered_case, likely_request, shown_case, sound_table, step_case, Shape, StepCase,
     CONFINEMENT_NUMBERS, IMAGE_NUMBERS, IMPORT_NUMBERS, SHOWN_NUMBERS,
 };
 use crate::rng::Rng;
-use crate::shared::shared_imports;
+use crate::shared::{shared_imports, shared_tests, SharedTest};
 use yavrinks_model::image::IMAGE_LENGTH;
 use yavrinks_model::step::{step, step_in_place, Code, Request};
 use yavrinks_model::table::{Capability, ALL_RIGHTS, RD, TX, WK};
@@ -25,6 +26,8 @@ pub struct Counts {
     pub rounds: usize,
     /// How many of the shared imports are asked, from the first on.
     pub imports: usize,
+    /// How many of the shared tests are asked, from the first on.
+    pub tests: usize,
 }
 
 impl Default for Counts {
@@ -33,17 +36,37 @@ impl Default for Counts {
             runs: 24,
             rounds: 1,
             imports: 0,
+            tests: 0,
         }
+    }
+}
+
+/// All cases of a run: the questions with the model's answers, then the shared tests with their own.
+pub fn cases(seed: u64, counts: &Counts) -> Vec<Case> {
+    let shared = shared_tests().into_iter().take(counts.tests);
+    let questions = questions(seed, counts).into_iter();
+    questions
+        .map(Case::new)
+        .chain(shared.map(stated_test))
+        .collect()
+}
+
+/// A shared test, with the answer that stands in its file.
+fn stated_test(shared: SharedTest) -> Case {
+    let (number, bound) = shared.answer;
+    Case {
+        question: Question::Test(shared.test),
+        answer: Answer::Bound(number, bound),
     }
 }
 
 /// Draws the question of a turn: the first, the second and so on of its kind.
 type Draw = fn(&mut Rng, usize) -> Question;
 
-/// All questions of a run. Each kind has a generator of its own, so that the number of one kind
+/// The questions of a run. Each kind has a generator of its own, so that the number of one kind
 /// does not change the questions of another.
 pub fn questions(seed: u64, counts: &Counts) -> Vec<Question> {
-    let in_a_round: [(usize, Draw); 12] = [
+    let in_a_round: [(usize, Draw); 13] = [
         (aims().len(), aimed_step),
         (3, telling_step),
         (4, run),
@@ -56,6 +79,7 @@ pub fn questions(seed: u64, counts: &Counts) -> Vec<Question> {
         (12, chain),
         (WIDTHS.len(), least_chain),
         (12, import),
+        (PASSING_LISTS, passing),
     ];
     let rounds = in_a_round.map(|(count, draw)| (counts.rounds * count, draw));
     let mut seeds = Rng::new(seed);

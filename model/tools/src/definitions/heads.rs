@@ -14,6 +14,7 @@ pub const CRATES: [&str; 6] = [
 pub const HEAD: &str = "\
 -- Answers of the model, which the definitions have to give too.
 use mathlib.Core.Path.{_≡_, refl}
+use mathlib.Core.Bool.{Bool, true, false}
 use mathlib.Core.List.{List, [], _∷_, map}
 use Prim.Native.Nat.{ℕ}
 use Rattle.mask.specs.Sets.{bits}
@@ -28,7 +29,7 @@ use Rattle.steps.specs.Steps.{stepOf, runTable, runReplies}
 use Rattle.access.specs.declared.Access.{Access}
 use Rattle.access.specs.Answers.{accessOf, accessNumber}
 use Rattle.confinement.specs.declared.Tested.{Tested}
-use Rattle.confinement.specs.Refusals.{verdictNumber}
+use Rattle.confinement.specs.Refusals.{passes, verdictNumber}
 use Rattle.confinement.specs.Tests.{testOf}
 use Rattle.links.specs.Links.{wordEdge}
 use Rattle.walks.specs.Chains.{leastChain}

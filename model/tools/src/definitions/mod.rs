@@ -9,6 +9,7 @@ pub mod crates;
 pub mod draw;
 mod heads;
 mod options;
+mod passing;
 pub mod scratch;
 pub mod specs;
 pub mod statements;
@@ -57,8 +58,7 @@ pub fn run(options: &Options) -> io::Result<Outcome> {
 
 fn compare(options: &Options, scratch: &Scratch) -> io::Result<Outcome> {
     let start = Instant::now();
-    let questions = draw::questions(options.seed, &options.counts);
-    let drawn: Vec<Case> = questions.into_iter().map(Case::new).collect();
+    let drawn = draw::cases(options.seed, &options.counts);
     let wrong = wrong_cases(&mut Rng::new(options.seed), &drawn);
     let right: BTreeMap<usize, Case> = (0..).zip(drawn).collect();
     let wrong: BTreeMap<usize, Case> = (right.len()..).zip(wrong).collect();

@@ -4,6 +4,7 @@
 use super::cases::{Answer, Case, Part, Question};
 use super::terms;
 use crate::generate::{ConfinementCase, ShownCase};
+use yavrinks_model::confinement::Entry;
 use yavrinks_model::links::Links;
 use yavrinks_model::runs::CleanPart;
 use yavrinks_model::set;
@@ -73,6 +74,12 @@ impl Writer<'_> {
                 format!("map number (runReplies {table} {asks}), runTable {table} {asks}")
             }
             Question::Test(case) => format!("tested (testOf {})", self.test(case)),
+            Question::Passing { list, held } => {
+                let list = self.list(list);
+                let held = terms::capabilities(held.iter().copied());
+                let held = self.value("held", "List Capability", &held);
+                format!("map (passes {list}) {held}")
+            }
             Question::Chain(ShownCase { test, object }) => {
                 format!("shown (chainOf {} {object})", self.test(test))
             }
@@ -101,7 +108,7 @@ impl Writer<'_> {
     /// Declares table and list of a test, and gives the arguments that a definition of it takes.
     fn test(&mut self, case: &ConfinementCase) -> String {
         let table = self.table("table", &case.table);
-        let list = self.value("list", "List Capability", &terms::entries(&case.list));
+        let list = self.list(&case.list);
         format!("{table} {} {list}", case.members)
     }
 
@@ -155,6 +162,7 @@ impl Writer<'_> {
                 ("List ℕ × Table", format!("({replies}, {table})"))
             }
             Answer::Bound(number, bound) => ("ℕ × ℕ", format!("({number}, {bound})")),
+            Answer::Passing(truths) => ("List Bool", format!("({})", terms::truths(truths))),
             Answer::Chain(_, chain) if matches!(question, Question::LeastChain(_)) => {
                 ("List ℕ", format!("({})", terms::bytes(chain)))
             }
@@ -194,6 +202,10 @@ impl Writer<'_> {
 
     fn table(&mut self, stem: &str, table: &Table) -> String {
         self.value(stem, "Table", &terms::table(table))
+    }
+
+    fn list(&mut self, list: &[Entry]) -> String {
+        self.value("list", "List Capability", &terms::entries(list))
     }
 
     fn asks(&mut self, stem: &str, requests: &[Request]) -> String {

@@ -30,6 +30,11 @@ pub fn bytes(bytes: &[u8]) -> String {
     numbers(bytes.iter().map(|&byte| u64::from(byte)))
 }
 
+pub fn truths(truths: &[bool]) -> String {
+    let items: Vec<String> = truths.iter().map(bool::to_string).collect();
+    list(&items)
+}
+
 pub fn capability(capability: Capability) -> String {
     match capability {
         Capability::EMPTY => "free".into(),
@@ -47,16 +52,11 @@ pub fn record(record: &Record) -> String {
 
 pub fn table(table: &Table) -> String {
     let records: Vec<String> = table.records.iter().map(record).collect();
-    let slots: Vec<String> = table
-        .records
-        .iter()
-        .flat_map(|record| record.slots)
-        .map(capability)
-        .collect();
+    let slots = table.records.iter().flat_map(|record| record.slots);
     format!(
         "record {{\n  records =\n    {};\n  slots =\n    {};\n}}",
         list(&records),
-        list(&slots)
+        capabilities(slots)
     )
 }
 
@@ -73,12 +73,14 @@ pub fn pairs(pairs: &[Pair]) -> String {
     list(&items)
 }
 
-pub fn entries(entries: &[Entry]) -> String {
-    let items: Vec<String> = entries
-        .iter()
-        .map(|&(target, rights)| format!("slot {target} {rights}"))
-        .collect();
+pub fn capabilities(capabilities: impl IntoIterator<Item = Capability>) -> String {
+    let items: Vec<String> = capabilities.into_iter().map(capability).collect();
     list(&items)
+}
+
+pub fn entries(entries: &[Entry]) -> String {
+    let as_capability = |&(target, rights): &Entry| Capability::new(target, rights);
+    capabilities(entries.iter().map(as_capability))
 }
 
 /// A request, with its fields in the order of document 01.

@@ -10,7 +10,8 @@ use yavrinks_model::table::{Table, ACTIVE, ALIVE};
 
 /// For every kind of question, a case with a wrong number and one with a right number and wrong
 /// content, as far as the given cases have such; of clean objects, one for each part that is asked; of
-/// imports also one that is refused and yet brings something in.
+/// imports also one that is refused and yet brings something in; of capabilities that pass, one for each
+/// that is asked about.
 pub fn wrong_cases(rng: &mut Rng, cases: &[Case]) -> Vec<Case> {
     let mut wrong = Vec::new();
     let mut seen = Vec::new();
@@ -37,6 +38,9 @@ fn made_wrong(rng: &mut Rng, case: &Case) -> Vec<Case> {
                 .map(|part| wrong_part(case, *part, *start, along))
                 .collect()
         }
+        Answer::Passing(truths) => (0..truths.len())
+            .map(|place| with_answer(case, other_truth(truths, place)))
+            .collect(),
         answer if answer.number() == 0 => vec![with_answer(case, other_content(rng, answer))],
         answer => {
             let mut wrong = vec![with_answer(case, other_number(answer))];
@@ -46,6 +50,13 @@ fn made_wrong(rng: &mut Rng, case: &Case) -> Vec<Case> {
             wrong
         }
     }
+}
+
+/// One of the answers the other way round.
+fn other_truth(truths: &[bool], place: usize) -> Answer {
+    let mut truths = truths.to_vec();
+    truths[place] = !truths[place];
+    Answer::Passing(truths)
 }
 
 /// A refusal that leaves the first entity in the table.
@@ -78,6 +89,7 @@ fn other_number(answer: &Answer) -> Answer {
         }
         Answer::Ask(request) => *request = Request::Read { actor: 0, t: 0 },
         Answer::Entries(list) => list.push((0, 0)),
+        Answer::Passing(truths) => truths.push(true),
         Answer::Clean(start, _) => *start ^= 1,
     }
     answer
@@ -105,6 +117,7 @@ fn other_content(rng: &mut Rng, answer: &Answer) -> Answer {
             *request = Request::Unknown { code: 0, actor };
         }
         Answer::Entries(list) => list.push((0, 0)),
+        Answer::Passing(truths) => truths.push(true),
         Answer::Clean(start, _) => *start ^= 1,
     }
     answer

@@ -1,11 +1,12 @@
 //! Random confinement tests, each aimed at acceptance or at one refusal.
 //! An aimed case starts from an accepted one; later offences are added to some, then its own.
+//! In many, members hold wk alone over non-members, listed and not, now and then over dozens of them.
 
 use super::tables::{any_damage, numbers_where, sound_table, Shape};
 use crate::rng::Rng;
-use yavrinks_model::confinement::{Entry, MAX_ENTRIES};
+use yavrinks_model::confinement::{listed_rights, passes, Entry, MAX_ENTRIES};
 use yavrinks_model::set;
-use yavrinks_model::table::{Capability, Record, Table, ALL_RIGHTS};
+use yavrinks_model::table::{Capability, Record, Table, ALL_RIGHTS, SLOTS, WK};
 
 /// A table, a set of members and a list.
 #[derive(Clone, Debug, PartialEq, Eq)]
@@ -55,7 +56,10 @@ fn accepted_case(rng: &mut Rng) -> Option<ConfinementCase> {
     let mut table = sound_table(rng, &shape);
     let members = random_members(rng, &table)?;
     hide_members(rng, &mut table, members);
-    let held = outside_rights(&mut table, members);
+    if rng.percent(25) {
+        fill_with_weak(rng, &mut table, members);
+    }
+    let held = rights_to_list(rng, &mut table, members);
     let list = covering_list(rng, &table, members, &held);
     Some(ConfinementCase {
         table,
@@ -94,26 +98,59 @@ fn hide_members(rng: &mut Rng, table: &mut Table, members: u64) {
     }
 }
 
+/// What members hold over non-members with wk alone, where no wk is listed for the target: (member, target).
+pub fn unlisted_wk(table: &Table, members: u64, list: &[Entry]) -> Vec<(u8, u8)> {
+    let mut found = Vec::new();
+    for member in set::numbers(members) {
+        for held in table.record(member).capabilities() {
+            let listed = listed_rights(list, held.target) & WK != 0;
+            if held.rights == WK && !listed && !set::contains(members, held.target) {
+                found.push((member, held.target));
+            }
+        }
+    }
+    found
+}
+
 /// The born numbers outside the members, in ascending order.
-pub(super) fn born_non_members(table: &Table, members: u64) -> Vec<u8> {
+pub fn born_non_members(table: &Table, members: u64) -> Vec<u8> {
     let mut numbers = numbers_where(table, Record::is_born);
     numbers.retain(|&n| !set::contains(members, n));
     numbers
 }
 
-/// The rights that members hold over non-members, by target. Slots are emptied where there would
-/// be more targets than a list has room for.
-fn outside_rights(table: &mut Table, members: u64) -> Vec<Entry> {
+/// Fills slots of members that are empty with wk over non-members.
+fn fill_with_weak(rng: &mut Rng, table: &mut Table, members: u64) {
+    let outside = born_non_members(table, members);
+    let filled_percent = rng.pick(&[30, 100]).unwrap_or(100);
+    for member in set::numbers(members) {
+        for slot in 0..SLOTS {
+            let target = rng.pick(&outside).filter(|_| rng.percent(filled_percent));
+            let slot = &mut table.record_mut(member).slots[slot];
+            if let (Some(target), true) = (target, slot.is_empty()) {
+                *slot = Capability::new(target, WK);
+            }
+        }
+    }
+}
+
+/// The rights that members hold over non-members, by target, as far as they are to be listed: of wk
+/// alone a share, and none where there would be more targets than a list has room for. Slots with other
+/// rights are emptied there.
+fn rights_to_list(rng: &mut Rng, table: &mut Table, members: u64) -> Vec<Entry> {
+    let unlisted_percent = rng.pick(&[0, 50, 50, 100]).unwrap_or(50);
     let mut held: Vec<Entry> = Vec::new();
     for member in set::numbers(members) {
         for slot in &mut table.record_mut(member).slots {
-            if slot.is_empty() || set::contains(members, slot.target) {
+            let inside = slot.is_empty() || set::contains(members, slot.target);
+            if inside || (slot.rights == WK && rng.percent(unlisted_percent)) {
                 continue;
             }
             let known = held.iter().position(|entry| entry.0 == slot.target);
             match known {
                 Some(k) => held[k].1 |= slot.rights,
                 None if held.len() < MAX_ENTRIES => held.push((slot.target, slot.rights)),
+                None if slot.rights == WK => {}
                 None => *slot = Capability::EMPTY,
             }
         }
@@ -200,29 +237,54 @@ fn spoil_list(rng: &mut Rng, case: &mut ConfinementCase) -> Option<()> {
     Some(())
 }
 
-/// Puts a capability with a right that is not listed into a slot of a member.
+/// Puts a capability that does not pass into a slot of a member: with a right that is not listed, or with
+/// wk as the only one of several rights that is not.
 fn hold_unlisted(rng: &mut Rng, case: &mut ConfinementCase) -> Option<()> {
     let members: Vec<u8> = set::numbers(case.members).collect();
     let holder = rng.pick(&members)?;
-    let target = rng.pick(&born_non_members(&case.table, case.members))?;
-    let listed = case
-        .list
-        .iter()
-        .filter(|entry| entry.0 == target)
-        .fold(0, |union, entry| union | entry.1);
-    let missing: Vec<u8> = (1..=ALL_RIGHTS).filter(|r| r & !listed != 0).collect();
-    let capability = Capability::new(target, rng.pick(&missing)?);
+    let only_wk = only_wk_missing(rng, case).filter(|_| rng.percent(60));
+    let capability = match only_wk {
+        Some(capability) => capability,
+        None => not_passing(rng, case)?,
+    };
     case.table.record_mut(holder).slots[rng.between(0, 7) as usize] = capability;
     Some(())
 }
 
-/// Lets an alive non-member, active or passive, hold a capability naming a member.
+/// A capability to any non-member that does not pass.
+fn not_passing(rng: &mut Rng, case: &ConfinementCase) -> Option<Capability> {
+    let target = rng.pick(&born_non_members(&case.table, case.members))?;
+    let offences: Vec<Capability> = (1..=ALL_RIGHTS)
+        .map(|rights| Capability::new(target, rights))
+        .filter(|&held| !passes(&case.list, held))
+        .collect();
+    rng.pick(&offences)
+}
+
+/// A capability with wk and other rights, of which wk alone is not listed. None if no target has an
+/// entry without wk.
+fn only_wk_missing(rng: &mut Rng, case: &ConfinementCase) -> Option<Capability> {
+    let outside = born_non_members(&case.table, case.members);
+    let without_wk: Vec<Entry> = outside
+        .into_iter()
+        .map(|target| (target, listed_rights(&case.list, target)))
+        .filter(|&(_, listed)| listed != 0 && listed & WK == 0)
+        .collect();
+    let (target, listed) = rng.pick(&without_wk)?;
+    let others: Vec<u8> = (1..=ALL_RIGHTS).filter(|r| r & !listed == 0).collect();
+    Some(Capability::new(target, WK | rng.pick(&others)?))
+}
+
+/// Lets an alive non-member, active or passive, hold a capability naming a member, often with wk alone,
+/// which only members may hold unlisted.
 fn name_member_outside(rng: &mut Rng, case: &mut ConfinementCase) -> Option<()> {
     let members: Vec<u8> = set::numbers(case.members).collect();
     let mut holders = numbers_where(&case.table, Record::is_alive);
     holders.retain(|&n| !set::contains(case.members, n));
     let holder = rng.pick(&holders)?;
-    let capability = Capability::new(rng.pick(&members)?, rng.byte(1, ALL_RIGHTS));
+    let any = rng.byte(1, ALL_RIGHTS);
+    let rights = rng.pick(&[WK, any, any]).unwrap_or(any);
+    let capability = Capability::new(rng.pick(&members)?, rights);
     case.table.record_mut(holder).slots[rng.between(0, 7) as usize] = capability;
     Some(())
 }

@@ -9,7 +9,9 @@ mod requests;
 mod shown;
 mod tables;
 
-pub use confinement::{confinement_case, ConfinementCase, CONFINEMENT_NUMBERS};
+pub use confinement::{
+    born_non_members, confinement_case, unlisted_wk, ConfinementCase, CONFINEMENT_NUMBERS,
+};
 pub use images::{
     confine_input, encode_input, image_case, printed_number, CONFINE_NUMBERS, IMAGE_NUMBERS,
     INPUT_COUNT_AT,

@@ -216,8 +216,9 @@ impl Layers {
         }
     }
 
-    /// Members hold some of what is listed, and one another.
+    /// Members hold some of what is listed, one another, and wk over anything, which leads nowhere.
     fn add_held_by_members(&self, rng: &mut Rng, table: &mut Table, list: &[Entry]) {
+        let outside = [self.objects.concat(), self.others.clone()].concat();
         for &member in &self.members {
             for &(target, listed) in list {
                 let rights = listed & rng.byte(0, ALL_RIGHTS);
@@ -225,6 +226,9 @@ impl Layers {
             }
             let rights = rng.byte(0, ALL_RIGHTS);
             hold_any(rng, table, member, &self.members, rights);
+            for _ in 0..rng.between(0, 2) {
+                hold_any(rng, table, member, &outside, WK);
+            }
         }
     }
 }

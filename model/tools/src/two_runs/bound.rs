@@ -1,7 +1,7 @@
-//! The confinement test under given rules. The checks are the model's, but for the holders at 13;
-//! the bound is worked here, since most of the broken rules are about it.
+//! The confinement test under given rules. The checks before 12 are the model's; 12, 13 and the bound are
+//! worked here, since the broken rules are about them.
 
-use super::rules::{Access, Holders, Rules, StandIn};
+use super::rules::{Access, Naming, Rules, StandIn, Unlisted};
 use yavrinks_model::access::Relation;
 use yavrinks_model::confinement::{self, Entry};
 use yavrinks_model::refusal::Refusal;
@@ -17,16 +17,40 @@ const POINTS: usize = OBJECTS + 1;
 impl Rules {
     /// The test: 0 and the bound, or the refusal number and an empty bound.
     pub fn confinement_test(&self, table: &Table, members: u64, list: &[Entry]) -> (u8, u64) {
-        let (number, _) = confinement::confinement_test(table, members, list);
-        // Check 13 is the last one, so that without it the test accepts.
-        let skipped = number == Refusal::MemberNamedOutside.number()
-            && self.holders == Holders::Active
-            && !active_holder_names_member(table, members);
-        if number == 0 || skipped {
-            (0, self.bound(table, members, list))
-        } else {
-            (number, 0)
+        let unlisted = Refusal::RightNotListed.number();
+        let named = Refusal::MemberNamedOutside.number();
+        // Check 12 and check 13 are the last ones, so that any other number stands.
+        match confinement::confinement_test(table, members, list).0 {
+            number if ![0, unlisted, named].contains(&number) => (number, 0),
+            _ if !self.members_pass(table, members, list) => (unlisted, 0),
+            _ if self.member_is_named(table, members) => (named, 0),
+            _ => (0, self.bound(table, members, list)),
         }
+    }
+
+    fn members_pass(&self, table: &Table, members: u64, list: &[Entry]) -> bool {
+        held_outside(table, members).all(|held| {
+            let passes_too = match self.unlisted {
+                Unlisted::WkAlone => false,
+                Unlisted::WkAmongOthers => held.has_any(WK),
+                Unlisted::AllIfListEmpty => list.is_empty(),
+            };
+            passes_too || confinement::passes(list, held)
+        })
+    }
+
+    fn member_is_named(&self, table: &Table, members: u64) -> bool {
+        set::numbers(!members).any(|n| {
+            let record = table.record(n);
+            record.capabilities().any(|held| {
+                let looked_at = match self.naming {
+                    Naming::All => true,
+                    Naming::OfActive => record.is_active(),
+                    Naming::NotWkAlone => held.rights != WK,
+                };
+                looked_at && set::contains(members, held.target)
+            })
+        })
     }
 
     /// The bound for a test that is accepted.
@@ -71,8 +95,7 @@ impl Rules {
     fn held_by_stand_in(&self, table: &Table, members: u64, list: &[Entry]) -> Vec<Entry> {
         match self.stand_in {
             StandIn::List => list.to_vec(),
-            StandIn::Slots => set::numbers(members)
-                .flat_map(|member| outside_capabilities(table.record(member), members))
+            StandIn::Slots => held_outside(table, members)
                 .map(|held| (held.target, held.rights))
                 .collect(),
         }
@@ -130,10 +153,8 @@ fn outside_capabilities(record: &Record, members: u64) -> impl Iterator<Item = C
         .filter(move |held| !set::contains(members, held.target))
 }
 
-fn active_holder_names_member(table: &Table, members: u64) -> bool {
-    set::numbers(!members)
-        .map(|n| table.record(n))
-        .filter(|record| record.is_active())
-        .flat_map(Record::capabilities)
-        .any(|held| set::contains(members, held.target))
+/// What the members hold over non-members.
+fn held_outside(table: &Table, members: u64) -> impl Iterator<Item = Capability> + '_ {
+    set::numbers(members)
+        .flat_map(move |member| outside_capabilities(table.record(member), members))
 }

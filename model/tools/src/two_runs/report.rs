@@ -14,9 +14,14 @@ pub fn trial_text(trial: &Trial) -> String {
         ("  with a bound that is not empty", trial.bound_not_empty),
         ("  with lists of different length", trial.lengths_differ),
         ("  with different tables at the end", trial.ends_differ),
+        ("  with unlisted wk in one table", trial.unlisted_in_one),
+        ("  with unlisted wk in both tables", trial.unlisted_in_both),
+        ("  with it used in one run only", trial.used_in_one),
         ("clean objects at the start", trial.clean_at_start),
         ("objects made clean on the way", trial.made_clean),
         ("done by others to clean objects", tally.of_clean_by_others),
+        ("  read through unlisted wk", tally.unlisted_reads),
+        ("  fetched through unlisted wk", tally.unlisted_fetches),
     ];
     for (name, count) in rows {
         text.push_str(&format!("{name:<36}{count:>12}\n"));

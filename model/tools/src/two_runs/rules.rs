@@ -1,4 +1,4 @@
-//! The rules under which two runs are tried: those of document 01, or with one of them broken.
+//! The rules under which two runs are tried: those of document 01, as amended, or with one of them broken.
 //! `steps` and `bound` say what each rule does.
 
 /// What a fetch without rd makes of what it finds.
@@ -39,13 +39,26 @@ pub enum Access {
     WriteOneWay,
 }
 
-/// Whose capabilities are looked at for check 13.
+/// What passes check 12 though not every right of it is listed.
 #[derive(Clone, Copy, Debug, PartialEq, Eq)]
-pub enum Holders {
-    /// As in document 01: those of every non-member.
+pub enum Unlisted {
+    /// As 2.3 amends document 01: a capability with wk alone.
+    WkAlone,
+    /// Also a capability with wk and other rights.
+    WkAmongOthers,
+    /// Also every capability, where the list is empty.
+    AllIfListEmpty,
+}
+
+/// Which capabilities of non-members over a member are refused by check 13.
+#[derive(Clone, Copy, Debug, PartialEq, Eq)]
+pub enum Naming {
+    /// As in document 01: all of them.
     All,
-    /// Those of active non-members.
-    Active,
+    /// Those that active objects hold.
+    OfActive,
+    /// Those whose rights are other than exactly wk.
+    NotWkAlone,
 }
 
 /// What the stand-in holds.
@@ -63,17 +76,19 @@ pub struct Rules {
     pub weakening: Weakening,
     pub makes: Makes,
     pub access: Access,
-    pub holders: Holders,
+    pub unlisted: Unlisted,
+    pub naming: Naming,
     pub stand_in: StandIn,
 }
 
 impl Rules {
-    /// The rules of document 01.
+    /// The rules of document 01, as amended.
     pub const DOCUMENT: Rules = Rules {
         weakening: Weakening::ToWk,
         makes: Makes::OwnStock,
         access: Access::AsWritten,
-        holders: Holders::All,
+        unlisted: Unlisted::WkAlone,
+        naming: Naming::All,
         stand_in: StandIn::List,
     };
 }
@@ -89,7 +104,7 @@ pub struct Broken {
 }
 
 /// The broken models. Each of them must be caught.
-pub const BROKEN: [Broken; 10] = [
+pub const BROKEN: [Broken; 13] = [
     Broken {
         name: "fetch-not-weakened",
         says: "a fetch through wk copies all rights",
@@ -150,7 +165,31 @@ pub const BROKEN: [Broken; 10] = [
         name: "passive-holders-skipped",
         says: "check 13 looks at active holders alone",
         rules: Rules {
-            holders: Holders::Active,
+            naming: Naming::OfActive,
+            ..Rules::DOCUMENT
+        },
+    },
+    Broken {
+        name: "weak-over-member-passes",
+        says: "check 13 passes a non-member's wk over a member",
+        rules: Rules {
+            naming: Naming::NotWkAlone,
+            ..Rules::DOCUMENT
+        },
+    },
+    Broken {
+        name: "weak-among-others-passes",
+        says: "check 12 passes all rights with wk among them, unlisted",
+        rules: Rules {
+            unlisted: Unlisted::WkAmongOthers,
+            ..Rules::DOCUMENT
+        },
+    },
+    Broken {
+        name: "empty-list-passes-all",
+        says: "check 12 passes everything where the list is empty",
+        rules: Rules {
+            unlisted: Unlisted::AllIfListEmpty,
             ..Rules::DOCUMENT
         },
     },

@@ -3,11 +3,12 @@
 
 use super::rules::Rules;
 use super::tally::{Actor, Tally};
+use crate::generate::unlisted_wk;
 use yavrinks_model::confinement::Entry;
 use yavrinks_model::runs::{clean_after, clean_at_start, is_from_clean};
 use yavrinks_model::set;
 use yavrinks_model::step::Request;
-use yavrinks_model::table::{Table, OBJECTS};
+use yavrinks_model::table::{Capability, Table, OBJECTS, WK};
 
 /// Two tables that agree on every non-member, with members and a list.
 #[derive(Clone, Debug, PartialEq, Eq)]
@@ -45,6 +46,8 @@ pub struct Run {
     pub table: Table,
     members: u64,
     bound: u64,
+    /// What members held at the start over non-members with wk alone and unlisted: (member, target).
+    unlisted_wk: Vec<(u8, u8)>,
     /// The objects that are clean by now.
     pub clean: u64,
     /// How many requests were taken.
@@ -60,6 +63,7 @@ impl Run {
             table: table.clone(),
             members,
             bound,
+            unlisted_wk: unlisted_wk(table, members, list),
             clean: clean_at_start(table, members, bound),
             length: 0,
             tally: Tally::default(),
@@ -74,14 +78,34 @@ impl Run {
     /// Takes a request under the rules.
     pub fn take(&mut self, rules: &Rules, request: &Request) -> u8 {
         let actor = self.actor(request.actor());
-        let of_clean = self.is_through_clean(request);
+        let used = self.used_over_clean(request);
         let reply = rules.step_in_place(&mut self.table, request);
-        let by_clean = actor == Actor::Clean;
         self.length += 1;
         self.tally.count(actor, request.code(), reply == 0);
-        self.tally.of_clean_by_others += u64::from(of_clean && !by_clean && reply == 0);
+        if let (Some(used), 0) = (used, reply) {
+            self.count_over_clean(actor, request, used);
+        }
         self.clean = clean_after(self.clean, request, reply);
         reply
+    }
+
+    /// Counts a request that was done through a capability over a clean object.
+    fn count_over_clean(&mut self, actor: Actor, request: &Request, used: Capability) {
+        let held = (request.actor(), used.target);
+        let unlisted = used.rights == WK && self.unlisted_wk.contains(&held);
+        self.tally.of_clean_by_others += u64::from(actor != Actor::Clean);
+        match request {
+            Request::Read { .. } if unlisted => self.tally.unlisted_reads += 1,
+            Request::Fetch { .. } if unlisted => self.tally.unlisted_fetches += 1,
+            _ => {}
+        }
+    }
+
+    /// Whether a member held wk alone and unlisted over a clean object at the start. What was born then
+    /// does not become clean later, so that the answer stays the same along the run.
+    pub fn has_unlisted_wk(&self) -> bool {
+        let mut held = self.unlisted_wk.iter();
+        held.any(|&(_, target)| set::contains(self.clean, target))
     }
 
     fn actor(&self, n: u8) -> Actor {
@@ -100,12 +124,12 @@ impl Run {
         }
     }
 
-    /// Whether the request uses a capability over a clean object.
-    fn is_through_clean(&self, request: &Request) -> bool {
-        let actor = self.table.records.get(usize::from(request.actor()));
-        let used = request.used_slot().zip(actor);
-        used.and_then(|((t, _), record)| record.slots.get(usize::from(t)))
-            .is_some_and(|used| !used.is_empty() && set::contains(self.clean, used.target))
+    /// The capability that the request uses, if it is one over a clean object.
+    fn used_over_clean(&self, request: &Request) -> Option<Capability> {
+        let actor = self.table.records.get(usize::from(request.actor()))?;
+        let (t, _) = request.used_slot()?;
+        let used = *actor.slots.get(usize::from(t))?;
+        (!used.is_empty() && set::contains(self.clean, used.target)).then_some(used)
     }
 }
 

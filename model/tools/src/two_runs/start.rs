@@ -1,16 +1,18 @@
 //! Random pairs of start tables: equal on every non-member, different in what the members hold.
 //! Most are arranged so that some objects stay clean, others are reached by the members, and a
-//! few capabilities are out of place, as a broken rule needs.
+//! few capabilities are out of place, as a broken rule needs. In most, members hold wk alone over objects
+//! that stay clean, and no entry says so: in one of the tables, or in both.
 
 use super::runs::Start;
-use crate::generate::{confinement_case, ConfinementCase};
+use crate::generate::{born_non_members, confinement_case, ConfinementCase};
 use crate::rng::Rng;
-use yavrinks_model::confinement::{Entry, MAX_ENTRIES};
+use yavrinks_model::confinement::{passes, Entry, MAX_ENTRIES};
 use yavrinks_model::set;
 use yavrinks_model::table::{Capability, Record, Table};
 use yavrinks_model::table::{ACTIVE, ALIVE, ALL_RIGHTS, DEAD, PASSIVE, RD, SLOTS, UNBORN, WK};
 
-/// A pair of start tables. The test accepts both, unless a passive object names a member.
+/// A pair of start tables. The test accepts both, unless a non-member names a member or a member holds
+/// something that does not pass.
 pub fn draw_start(rng: &mut Rng) -> Start {
     let case = if rng.percent(15) {
         confinement_case(rng, 0)
@@ -21,11 +23,37 @@ pub fn draw_start(rng: &mut Rng) -> Start {
     if rng.percent(92) {
         fill_members(rng, &mut second, case.members, &case.list);
     }
-    Start {
+    let mut start = Start {
         first: case.table,
         second,
         members: case.members,
         list: case.list,
+    };
+    if rng.percent(15) {
+        hold_unlisted(rng, &mut start);
+    }
+    start
+}
+
+/// Lets a member hold what does not pass, in one table or in both. Often wk is among its rights.
+fn hold_unlisted(rng: &mut Rng, start: &mut Start) {
+    let members: Vec<u8> = set::numbers(start.members).collect();
+    let outside = born_non_members(&start.first, start.members);
+    let rights = rng.pick(&[0, WK]).unwrap_or(WK) | any_rights(rng);
+    let tables = rng.pick(&[[true, false], [false, true], [true, true]]);
+    let [in_first, in_second] = tables.unwrap_or([true, true]);
+    if let (Some(member), Some(target)) = (rng.pick(&members), rng.pick(&outside)) {
+        let held = Capability::new(target, rights);
+        if passes(&start.list, held) {
+            return;
+        }
+        let k = rng.between(0, 7) as usize;
+        if in_first {
+            start.first.record_mut(member).slots[k] = held;
+        }
+        if in_second {
+            start.second.record_mut(member).slots[k] = held;
+        }
     }
 }
 
@@ -72,8 +100,8 @@ impl Parts {
     }
 }
 
-/// A table of few objects, members and a list, made from parts. The test accepts them, unless a passive
-/// object names a member.
+/// A table of few objects, members and a list, made from parts. The test accepts them, unless a
+/// non-member names a member.
 pub fn arranged_case(rng: &mut Rng) -> ConfinementCase {
     let parts = Parts::draw(rng);
     let members = set::of(&parts.members);
@@ -199,6 +227,9 @@ fn put_out_of_place(rng: &mut Rng, parts: &Parts, table: &mut Table, list: &mut 
         let rights = if rng.percent(50) { RD } else { any_rights(rng) };
         put_anywhere(rng, table, &holders, &targets, rights);
     }
+    if rng.percent(10) {
+        put_anywhere(rng, table, &holders, &parts.members, WK);
+    }
     holders.retain(|&n| !table.record(n).is_active());
     if rng.percent(15) {
         let rights = any_rights(rng);
@@ -213,9 +244,12 @@ fn put_anywhere(rng: &mut Rng, table: &mut Table, holders: &[u8], targets: &[u8]
     }
 }
 
-/// Draws anew all that the members hold: kinds, words, stocks and slots. Nothing else changes.
+/// Draws anew all that the members hold: kinds, words, stocks and slots. Nothing else changes. In every
+/// third table no wk is put in beside what is listed, so that it is often in one of two tables alone.
 fn fill_members(rng: &mut Rng, table: &mut Table, members: u64, list: &[Entry]) {
     let numbers: Vec<u8> = set::numbers(members).collect();
+    let outside = born_non_members(table, members);
+    let weak_percent = rng.pick(&[0, 30, 60]).unwrap_or(0);
     for &member in &numbers {
         *table.record_mut(member) = Record {
             status: ALIVE,
@@ -224,9 +258,12 @@ fn fill_members(rng: &mut Rng, table: &mut Table, members: u64, list: &[Entry]) 
             ..Record::UNBORN
         };
         for k in 0..SLOTS {
-            if rng.percent(60) {
-                table.record_mut(member).slots[k] = member_capability(rng, &numbers, list);
-            }
+            table.record_mut(member).slots[k] = if rng.percent(60) {
+                member_capability(rng, &numbers, list)
+            } else {
+                let target = rng.pick(&outside).filter(|_| rng.percent(weak_percent));
+                target.map_or(Capability::EMPTY, |target| Capability::new(target, WK))
+            };
         }
     }
     share_free_numbers(rng, table, &numbers);

@@ -51,6 +51,9 @@ pub struct Tally {
     counts: [[Count; 9]; 6],
     /// Requests that others got done through a capability over a clean object.
     pub of_clean_by_others: u64,
+    /// Among these, what members got done through wk alone that they held unlisted at the start.
+    pub unlisted_reads: u64,
+    pub unlisted_fetches: u64,
 }
 
 fn row_of(code: u8) -> usize {
@@ -69,10 +72,17 @@ impl Tally {
     /// Adds the counts of another tally.
     pub fn add(&mut self, other: &Tally) {
         self.of_clean_by_others += other.of_clean_by_others;
+        self.unlisted_reads += other.unlisted_reads;
+        self.unlisted_fetches += other.unlisted_fetches;
         let own = self.counts.iter_mut().flatten();
         for (count, more) in own.zip(other.counts.iter().flatten()) {
             count.add(*more);
         }
+    }
+
+    /// Whether a member read or fetched so.
+    pub fn used_unlisted(&self) -> bool {
+        self.unlisted_reads + self.unlisted_fetches != 0
     }
 
     /// Requests with a code of clean actors, and of all others.

@@ -2,7 +2,7 @@
 
 use super::requests::{clean_request, other_request};
 use super::rules::Rules;
-use super::runs::{Difference, Move, Start, TwoRuns};
+use super::runs::{Difference, Move, Run, Start, TwoRuns};
 use super::start::draw_start;
 use super::tally::Tally;
 use crate::progress::Progress;
@@ -28,6 +28,11 @@ pub struct Trial {
     pub lengths_differ: u64,
     /// Pairs whose tables differ at the end, in objects that are not clean.
     pub ends_differ: u64,
+    /// Pairs where members hold wk alone over a clean object, unlisted, in one start table or in both.
+    pub unlisted_in_one: u64,
+    pub unlisted_in_both: u64,
+    /// Pairs where they read or fetched through it in one of the runs and not in the other.
+    pub used_in_one: u64,
     pub clean_at_start: u64,
     pub made_clean: u64,
     pub found: Option<Case>,
@@ -59,6 +64,7 @@ impl Trial {
         self.bound_not_empty += u64::from(runs.bound != 0);
         self.lengths_differ += u64::from(runs.first.length != runs.second.length);
         self.ends_differ += u64::from(runs.first.table != runs.second.table);
+        self.count_unlisted(runs);
         for n in set::numbers(runs.first.clean) {
             let at_start = drawn.start.first.is_born(n);
             self.clean_at_start += u64::from(at_start);
@@ -66,6 +72,15 @@ impl Trial {
         }
         self.tally.add(&runs.first.tally);
         self.tally.add(&runs.second.tally);
+    }
+
+    fn count_unlisted(&mut self, runs: &TwoRuns) {
+        let both = [&runs.first, &runs.second];
+        let held = both.map(Run::has_unlisted_wk);
+        self.unlisted_in_one += u64::from(held[0] != held[1]);
+        self.unlisted_in_both += u64::from(held[0] && held[1]);
+        let used = both.map(|run| run.tally.used_unlisted());
+        self.used_in_one += u64::from(used[0] != used[1]);
     }
 }
 

@@ -1,5 +1,5 @@
 //! Chains shown: every answer many times, long chains, chains that compete, every right in both
-//! directions, and the first and the last of numbers, slots and entries.
+//! directions, wk that a member holds, and the first and the last of numbers, slots and entries.
 
 use super::{digest, layout, Part};
 use crate::generate::{layered_case, shown_case, ConfinementCase, ShownCase};
@@ -59,6 +59,7 @@ pub fn shown_cases() -> Vec<ShownCase> {
     cases.extend(lines());
     cases.extend(competing());
     cases.extend(single_rights());
+    cases.extend(held_by_the_member());
     cases.extend(first_and_last_places());
     for n in [0, 63] {
         cases.extend(edge_objects(n));
@@ -147,6 +148,20 @@ fn single_rights() -> Vec<ShownCase> {
         cases.push(by_hand(&[], &[(2, rights)], 2));
     }
     cases
+}
+
+/// What the member holds with wk alone leads nowhere, listed or not; the same object can be reached by
+/// another entry. With rd beside it wk has to be listed, and nobody else may hold it over the member.
+fn held_by_the_member() -> Vec<ShownCase> {
+    let weak = [(MEMBER, 3, 1, WK), (1, 0, 2, WR)];
+    vec![
+        by_hand(&weak, &[], 1),
+        by_hand(&weak, &[], 2),
+        by_hand(&weak, &[(1, WK)], 2),
+        by_hand(&weak, &[(2, RD)], 1),
+        by_hand(&[(MEMBER, 3, 1, RD | WK)], &[(1, RD)], 1),
+        by_hand(&[(MEMBER, 3, 1, WK), (1, 0, MEMBER, WK)], &[], 1),
+    ]
 }
 
 /// The first and the last slot of the first and the last number, and the first and the last entry.

@@ -1,17 +1,25 @@
-//! Confinement tests: every verdict many times, and lists of all lengths.
+//! Confinement tests: the shared test vectors, every verdict many times, lists of all lengths, and what
+//! members hold with wk, alone and among other rights.
 
 use super::{layout, Part};
 use crate::generate::{any_damage, confinement_case, ConfinementCase};
 use crate::rng::Rng;
+use crate::shared::shared_tests;
 use yavrinks_model::confinement::{confinement_test, Entry};
 use yavrinks_model::set;
 use yavrinks_model::table::{Capability, Record, Table};
-use yavrinks_model::table::{ALIVE, ALL_RIGHTS, DEAD, RD, TX, UNBORN, WK, WR};
+use yavrinks_model::table::{
+    ACTIVE, ALIVE, ALL_RIGHTS, DEAD, PASSIVE, RD, SLOTS, TX, UNBORN, WK, WR,
+};
 
 /// Lengths of lists that are too long, up to what a count of one byte can say.
 const LONG: [usize; 6] = [9, 10, 16, 100, 254, 255];
 
-/// Every verdict, lists of all lengths, then the first and the last of numbers and slots.
+/// How often each verdict is aimed at. Cases made by hand and shared ones add to all of them.
+const AIMS: [(u8, usize); 6] = [(0, 64), (1, 36), (10, 22), (11, 18), (12, 26), (13, 22)];
+
+/// Every verdict, the shared tests, lists of all lengths, the first and the last of numbers and slots, then
+/// wk in what members hold.
 pub fn test_cases() -> Vec<ConfinementCase> {
     let mut rng = Rng::new(0x7E575);
     let mut cases = vec![ConfinementCase {
@@ -19,9 +27,10 @@ pub fn test_cases() -> Vec<ConfinementCase> {
         members: set::single(5),
         list: vec![(1, WR)],
     }];
-    for (aim, times) in [(0, 110), (1, 40), (10, 44), (11, 44), (12, 44), (13, 44)] {
+    for (aim, times) in AIMS {
         cases.extend((0..times).map(|_| confinement_case(&mut rng, aim)));
     }
+    cases.extend(shared_tests().into_iter().map(|shared| shared.test));
     cases.extend((0..=8).map(|length| with_list(&mut rng, length)));
     for length in LONG {
         cases.extend(long_lists(&mut rng, length));
@@ -31,6 +40,12 @@ pub fn test_cases() -> Vec<ConfinementCase> {
         cases.extend(edge_holders(n));
         cases.extend(edge_lists(n));
     }
+    cases.extend(all_rights_unlisted());
+    cases.extend(only_wk_unlisted());
+    cases.extend(wk_beside_entries());
+    cases.extend([1, 3, 7].map(dozens_of_wk));
+    cases.extend(dozens_with_an_offence());
+    cases.extend([ACTIVE, PASSIVE].map(wk_over_a_member));
     cases
 }
 
@@ -100,16 +115,18 @@ fn edge_members(n: u8) -> Vec<ConfinementCase> {
         .collect()
 }
 
-/// A first or last number that holds too much as a member, that names the member from outside, or
-/// that is named as one; each in the first and the last slot.
+/// A first or last number that holds something unlisted as a member, that names the member from outside,
+/// or that is named as one; each in the first and the last slot. With wk alone a member may hold it.
 fn edge_holders(n: u8) -> Vec<ConfinementCase> {
     let mut cases = Vec::new();
     for slot in [0, 7] {
         for (holder, target, member) in [(n, 30, n), (n, 30, 30), (31, n, n), (30, n, 30)] {
-            let mut case = case_of_30(three_alive(n), &[(31, RD)]);
-            case.members = set::single(member);
-            case.table.record_mut(holder).slots[slot] = Capability::new(target, WK);
-            cases.push(case);
+            for rights in [WK, RD | WK] {
+                let mut case = case_of_30(three_alive(n), &[(31, RD)]);
+                case.members = set::single(member);
+                case.table.record_mut(holder).slots[slot] = Capability::new(target, rights);
+                cases.push(case);
+            }
         }
     }
     cases
@@ -131,6 +148,89 @@ fn edge_lists(n: u8) -> Vec<ConfinementCase> {
     member.members |= set::single(n);
     cases.push(member);
     cases
+}
+
+/// The test of members {30} and the list, where 30 holds the capability and 31 has all rights over 29.
+fn case_of_holder(held: Capability, list: &[Entry]) -> ConfinementCase {
+    let mut case = case_of_30(three_alive(29), list);
+    case.table.record_mut(30).slots[3] = held;
+    case.table.record_mut(31).slots[4] = Capability::new(29, ALL_RIGHTS);
+    case
+}
+
+/// Every rights value, with an empty list.
+fn all_rights_unlisted() -> Vec<ConfinementCase> {
+    (1..=ALL_RIGHTS)
+        .map(|rights| case_of_holder(Capability::new(31, rights), &[]))
+        .collect()
+}
+
+/// Every rights value that has wk and others, with all of it listed but wk.
+fn only_wk_unlisted() -> Vec<ConfinementCase> {
+    (1..=ALL_RIGHTS)
+        .filter(|rights| rights & WK != 0 && rights & !WK != 0)
+        .map(|rights| case_of_holder(Capability::new(31, rights), &[(31, rights & !WK)]))
+        .collect()
+}
+
+/// wk alone over a target that an entry names, with wk or without, and over one that no entry names; then
+/// beside a second capability over the same target, listed and not.
+fn wk_beside_entries() -> Vec<ConfinementCase> {
+    let weak = Capability::new(31, WK);
+    let lists: [&[Entry]; 5] = [
+        &[(31, WK)],
+        &[(31, WR)],
+        &[(31, WR), (31, WK)],
+        &[(29, WR)],
+        &[(29, WK)],
+    ];
+    let mut cases: Vec<ConfinementCase> = lists
+        .into_iter()
+        .map(|list| case_of_holder(weak, list))
+        .collect();
+    for list in [&[(31, TX)][..], &[(31, WK)]] {
+        let mut case = case_of_holder(weak, list);
+        case.table.record_mut(30).slots[5] = Capability::new(31, TX);
+        cases.push(case);
+    }
+    cases
+}
+
+/// So many members with wk alone over a target in each of their slots, all targets different, and an
+/// empty list. The members are the highest numbers.
+fn dozens_of_wk(members: u8) -> ConfinementCase {
+    let mut table = Table::unborn();
+    let members: Vec<u8> = (64 - members..64).collect();
+    let mut targets = 0..;
+    for &member in &members {
+        table.record_mut(member).status = ALIVE;
+        for (slot, target) in (0..SLOTS).zip(&mut targets) {
+            table.record_mut(target).status = ALIVE;
+            table.record_mut(member).slots[slot] = Capability::new(target, WK);
+        }
+    }
+    ConfinementCase {
+        table,
+        members: set::of(&members),
+        list: Vec::new(),
+    }
+}
+
+/// Dozens of wk, and one more right in the last slot of all; then wk from a target to a member.
+fn dozens_with_an_offence() -> [ConfinementCase; 2] {
+    let mut one_more = dozens_of_wk(3);
+    one_more.table.record_mut(63).slots[7].rights |= RD;
+    let mut named = dozens_of_wk(3);
+    named.table.record_mut(23).slots[7] = Capability::new(63, WK);
+    [one_more, named]
+}
+
+/// A non-member of the kind with wk alone over the member, which has wk alone over it.
+fn wk_over_a_member(kind: u8) -> ConfinementCase {
+    let mut case = case_of_holder(Capability::new(31, WK), &[]);
+    case.table.record_mut(31).kind = kind;
+    case.table.record_mut(31).slots[0] = Capability::new(30, WK);
+    case
 }
 
 pub fn part() -> Part {

@@ -20,6 +20,24 @@ fn examples_1_and_2_are_accepted() {
     let mut weak = image_k();
     put_slot(&mut weak, 5, 0, 1, 4);
     assert_answer(&input(&weak, &[5], &[(1, 4)]), "accepted\n", 0);
+    assert_answer(&input(&weak, &[5], &[]), "accepted\n", 0);
+}
+
+/// Rights 5 are rd and wk. Beside rd, wk has to be listed too.
+#[test]
+fn wk_beside_rd_has_to_be_listed_and_wk_alone_has_not() {
+    let mut image = image_k();
+    put_slot(&mut image, 5, 0, 1, 5);
+    assert_answer(&input(&image, &[5], &[]), "refused 12\n", 1);
+    assert_answer(&input(&image, &[5], &[(1, 1)]), "refused 12\n", 1);
+    let both = [(1, 1), (1, 4)];
+    assert_answer(&input(&image, &[5], &both), "accepted\n0\n1\n2\n", 0);
+    // What the other slots read through wk alone needs no entry, and adds nothing.
+    for (j, target) in [(1, 0), (2, 2), (3, 3), (4, 4), (5, 6), (6, 6), (7, 1)] {
+        put_slot(&mut image, 5, j, target, 4);
+    }
+    assert_answer(&input(&image, &[5], &both), "accepted\n0\n1\n2\n", 0);
+    assert_answer(&input(&image, &[5], &[(1, 1)]), "refused 12\n", 1);
 }
 
 #[test]

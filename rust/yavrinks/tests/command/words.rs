@@ -20,8 +20,13 @@ fn help_is_printed_where_it_is_asked_for() {
             printed.starts_with("Usage: yavrinks confine [FILE]\n"),
             "{printed}"
         );
-        for status in ["0 for accepted", "1 for refused", "and 2 where"] {
-            assert!(printed.contains(status), "{printed}");
+        for told in [
+            "0 for accepted",
+            "1 for refused",
+            "and 2 where",
+            "needs no entry",
+        ] {
+            assert!(printed.contains(told), "{printed}");
         }
     }
 }
@@ -31,7 +36,7 @@ fn the_version_is_the_packages_and_the_librarys() {
     for word in ["--version", "-V"] {
         let output = yavrinks(&[word]).output().expect("the command runs");
         let printed = String::from_utf8(output.stdout).expect("text");
-        assert_eq!(printed, "yavrinks 0.1.0, libcaptable 0.3.0\n");
+        assert_eq!(printed, "yavrinks 0.1.0, libcaptable 0.4.0\n");
         assert_eq!(output.status.code(), Some(0));
     }
 }

@@ -13,7 +13,7 @@ has-requires-2 : tie.Need-has-requires-2
 has-requires-2 c κs = search needs
 
 returns : tie.Need-returns
-returns c = let a = c .before .before .before .before .args .c in ap₂ (λ (x y : Bool). not x && (not (isEmpty a) && y)) (c .before .before .before .has .ensures) (c .has2 .ensures)
+returns c = let a = c .before .before .args .c in ap₂ (λ (x y : Bool). not x && (not (isEmpty a) && y)) (c .before .has .ensures) (c .has2 .ensures)
 
 pub slot-names-member-spec : {M : Type 1} → statement M
 slot-names-member-spec = tie.close (tie.spec has-requires has-requires-2 returns)

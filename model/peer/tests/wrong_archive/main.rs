@@ -1,5 +1,7 @@
 //! An archive with one thing wrong is found out by the comparison, and the linked one is not.
 
+mod weak;
+
 use captable::raw;
 use yavrinks_peer::archive::{Archive, Calls};
 use yavrinks_peer::differential::{compare_inputs, compare_requests, Counts, Difference, Line};
@@ -20,10 +22,16 @@ fn first_difference(calls: &impl Calls) -> Option<Box<Difference>> {
     compared.err().map(|found| found.difference)
 }
 
+/// What is told of the first difference, which there must be.
+#[track_caller]
+fn told_of(calls: &impl Calls) -> String {
+    let difference = first_difference(calls).expect("the wrong archive is found out");
+    difference.to_string()
+}
+
 /// Is the difference found in this call, and in this part of its answer alone?
 fn is_found(calls: &impl Calls, call: &str, part: &str) {
-    let difference = first_difference(calls).expect("the wrong archive is found out");
-    let told = difference.to_string();
+    let told = told_of(calls);
     let first = told.lines().next();
     let expected = format!("{call} differs from the model in: {part}");
     assert_eq!(first, Some(expected.as_str()), "{told}");
@@ -57,6 +65,27 @@ fn every_number_of_every_call_is_met() {
         }
     }
     assert!(counts.of(Line::Chain, 0) >= 30, "{counts}");
+}
+
+/// Tests where a member holds wk alone that the list lacks are among them: accepted ones, ones with another
+/// capability that is refused beside it, and ones that go on to 13.
+#[test]
+fn unlisted_wk_is_met_with_every_number_from_12_on() {
+    let mut counts = Counts::default();
+    compare_requests(&Archive, 1, REQUESTS, &mut counts).expect("no difference");
+    compare_inputs(&Archive, 1, INPUTS, &mut counts).expect("no difference");
+    let lines: [(Line, &[u8], u64); 3] = [
+        (Line::Test, &[0, 12, 13], 10),
+        (Line::Chain, &[0, 12, 13, 19], 5),
+        (Line::Confine, &[0, 12, 13], 2),
+    ];
+    for (line, numbers, least) in lines {
+        for &number in numbers {
+            let met = counts.of_unlisted(line, number);
+            assert!(met >= least, "{line:?}, {number}: {met}\n{counts}");
+            assert!(met <= counts.of(line, number), "{line:?}, {number}");
+        }
+    }
 }
 
 /// Answers 7 for 8.

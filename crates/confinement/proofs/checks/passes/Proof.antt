@@ -1,8 +1,8 @@
--- `all_listed` tests the four rights of a capability against the listed ones. Assumes nothing.
-use Rattle.confinement.proofs.Scans.{all-covered}
+-- `passes` tests for exactly wk, and the four rights of a capability against the listed ones. Assumes nothing.
+use Rattle.confinement.proofs.Scans.{passes-covered}
 use borrow.Author.Needs.{needs}
-use Rattle.confinement.proofs.checks.all_listed.Statement.{statement}
-use Rattle.confinement.proofs.checks.all_listed.Tie as tie
+use Rattle.confinement.proofs.checks.passes.Statement.{statement}
+use Rattle.confinement.proofs.checks.passes.Tie as tie
 
 listed-for-requires : tie.Need-listed-for-requires
 listed-for-requires c κs = search needs
@@ -20,10 +20,10 @@ covered-requires-4 : tie.Need-covered-requires-4
 covered-requires-4 c κs = search needs
 
 returns : tie.Need-returns
-returns c = all-covered _ _ _ _ _ _ _ (c .before .before .before .before .listed-for .ensures) (c .before .before .before .covered .ensures) (c .before .before .covered2 .ensures) (c .before .covered3 .ensures) (c .covered4 .ensures)
+returns c = passes-covered _ _ _ _ _ _ _ (c .before .before .before .before .listed-for .ensures) (c .before .before .before .covered .ensures) (c .before .before .covered2 .ensures) (c .before .covered3 .ensures) (c .covered4 .ensures)
 
-pub all-listed-spec : {M : Type 1} → statement M
-all-listed-spec =
+pub passes-spec : {M : Type 1} → statement M
+passes-spec =
     tie.close
     (tie.spec
     listed-for-requires

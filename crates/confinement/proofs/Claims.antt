@@ -1,0 +1,147 @@
+-- What 2.3 claims of the test. Exactly wk passes, whatever is listed, and so two tables, both sound or neither, that differ only in
+-- members' slots that are empty or hold exactly wk get the same answer; any other capability of a member needs each of its rights
+-- listed; an entry of wk alone stays legal; and an accepted test gives the same verdict and bound with such entries put in.
+-- Assumes nothing.
+use mathlib.Core.Path.{_≡_, refl, sym, _∙_, ap, ap₂}
+use mathlib.Core.Logic.{⊎-elim}
+use mathlib.Core.Bool.{Bool, true, false, not, _&&_, _||_}
+use mathlib.Core.List.{List}
+use Prim.Native.Nat.{ℕ}
+use lib.Dec.{ltb, eqb}
+use lib.ListN.{length}
+use borrow.Author.Tests.{ltb-true, eqb-true, eq-eqb}
+use Rattle.mask.specs.Sets.{has, anyBelow}
+use Rattle.mask.proofs.Tests.{byCases, byEq, clash, and-true, and-intro, and-false, or-cases, or-left, or-right, imply-intro}
+use Rattle.mask.proofs.Below.{any-ext}
+use Rattle.mask.proofs.Bits.{has-zero}
+use Rattle.table.specs.declared.Capability.{Capability}
+use Rattle.table.specs.declared.Record.{Record}
+use Rattle.table.specs.declared.Table.{Table}
+use Rattle.table.specs.Cells.{slotAt, isAlive, isBorn, isEmpty}
+use Rattle.table.specs.Soundness.{sound}
+use Rattle.relation.specs.Relation.{Right, rd, wr, wk, tx, bitAt, takesPart}
+use Rattle.bounds.specs.StandIn.{entryAt, listed, boundOf}
+use Rattle.bounds.specs.Exactness.{BoundBlind, WithWeak, WeakEntriesFree}
+use Rattle.bounds.proofs.Exact.{bound-blind}
+use Rattle.bounds.proofs.Weak.{listed-still, weak-entries-free}
+use Rattle.confinement.specs.declared.Verdict.{Verdict}
+use Rattle.confinement.specs.declared.Verdict.the-variants.{Accepted}
+use Rattle.confinement.specs.declared.Tested.{Tested}
+use Rattle.confinement.specs.Refusals.{verdictNumber, badMembers, badEntry, badList, rightListed, allListed, passes, badHeld, memberHeld, verdictOf}
+use Rattle.confinement.specs.Tests.{isAccepted, refusedTest, testOf}
+use Rattle.confinement.specs.Exactness.{WeakPasses, emptyOrWeak, AlikeButWeak, WeakNoMatter, OthersListed, WeakLegal, WeakChangesNothing}
+use Rattle.confinement.proofs.Scans.{missing}
+use Rattle.confinement.proofs.TestFacts.{listed-each, passed-listed, no-row, slot-passes}
+use Rattle.confinement.proofs.Verdicts.{accepted-is, accepted}
+
+pub weak-passes : WeakPasses
+unfolding WeakPasses passes
+weak-passes list c e = or-left (eqb (c .rights) 4) _ (eq-eqb (c .rights) 4 e)
+
+each-listed : (list : List Capability) (c : Capability) → ((b : Right) → has (bitAt b) (c .rights) ≡ true → listed list b (c .target) ≡ true) → allListed list c ≡ true
+unfolding allListed
+each-listed list c f =
+    let one : (b : Right) → rightListed list c b ≡ true = λ b. imply-intro (has (bitAt b) (c .rights)) (listed list b (c .target)) (f b) in
+    and-intro _ _ (and-intro _ _ (and-intro _ _ (one rd) (one wr)) (one wk)) (one tx)
+
+listed-passes : (list : List Capability) (c : Capability) → allListed list c ≡ true → passes list c ≡ true
+unfolding passes
+listed-passes list c e = or-right (eqb (c .rights) 4) _ e
+
+pub others-listed : OthersListed
+unfolding OthersListed
+others-listed list c n = (
+  λ e b h. listed-each list c b (passed-listed list c e n) h,
+  λ f. listed-passes list c (each-listed list c f),
+)
+
+-- an empty slot and exactly wk pass, whatever is listed
+empty-or-weak-passes : (list : List Capability) (c : Capability) → emptyOrWeak c ≡ true → passes list c ≡ true
+unfolding WeakPasses
+empty-or-weak-passes list c e = or-cases (isEmpty c) (eqb (c .rights) 4) e
+    (λ q. let z = eqb-true (c .rights) 0 (and-true (eqb (c .target) 0) (eqb (c .rights) 0) q .1) in
+    listed-passes list c (each-listed list c (λ b h. clash h (ap (has (bitAt b)) z ∙ has-zero (bitAt b)))))
+    (λ q. weak-passes list c (eqb-true (c .rights) 4 q))
+
+module _ (t u : Table) (members : ℕ) (list : List Capability) (like : AlikeButWeak members t u) where
+  same-members : badMembers t members ≡ badMembers u members
+  unfolding badMembers
+  same-members = ap (λ (b : Bool). not (anyBelow 64 (λ n. has n members)) || b)
+      (any-ext 64 _ _ (λ n h. ap (λ (r : Record). has n members && not (isAlive r)) (like .records n h)))
+
+  same-part : (y : ℕ) → takesPart t y ≡ takesPart u y
+  unfolding takesPart
+  same-part y = byCases (ltb y 64)
+      (λ e. ap (λ (r : Record). ltb y 64 && isBorn r) (like .records y (ltb-true y 64 e)))
+      (λ e. rw e refl)
+
+  same-list : badList t members list ≡ badList u members list
+  unfolding badList badEntry
+  same-list = ap (λ (b : Bool). ltb 8 (length list) || b)
+      (any-ext (length list) _ _ (λ k h. let e = entryAt list k in
+      ap (λ (b : Bool). eqb (e .rights) 0 || ltb 15 (e .rights) || not b || has (e .target) members) (same-part (e .target))))
+
+  -- a member's slot that differs offends in neither
+  fine : (c : Capability) → emptyOrWeak c ≡ true → (not (has (c .target) members) && not (passes list c)) ≡ false
+  fine c e = ap (λ (b : Bool). not (has (c .target) members) && not b) (empty-or-weak-passes list c e) ∙ and-false (not (has (c .target) members))
+
+  same-held : badHeld t members list ≡ badHeld u members list
+  unfolding badHeld
+  same-held = any-ext 64 _ _ (λ n hn. byCases (has n members)
+      (λ i. ap (λ (b : Bool). has n members && b) (any-ext 8 _ _ (λ j hj. ⊎-elim
+      (λ q. ap (λ (c : Capability). not (has (c .target) members) && not (passes list c)) q)
+      (λ q. fine (slotAt t n j) (q .0) ∙ sym (fine (slotAt u n j) (q .1)))
+      (like .own n j hn hj i))))
+      (λ i. rw i refl))
+
+  same-outside : memberHeld t members ≡ memberHeld u members
+  unfolding memberHeld
+  same-outside = any-ext 64 _ _ (λ n hn. byCases (has n members)
+      (λ i. rw i refl)
+      (λ i. ap (λ (b : Bool). not (has n members) && b) (any-ext 8 _ _ (λ j hj.
+      ap (λ (c : Capability). not (isEmpty c) && has (c .target) members) (like .others n j hn hj i)))))
+
+  same-verdict : sound t ≡ sound u → verdictOf t members list ≡ verdictOf u members list
+  unfolding verdictOf
+  same-verdict e = cc (e, same-members, same-list, same-held, same-outside)
+
+  same-bound : boundOf t members list ≡ boundOf u members list
+  unfolding BoundBlind
+  same-bound = bound-blind members t u (record { records = λ n h o. like .records n h; slots = like .others }) list
+
+pub weak-no-matter : WeakNoMatter
+unfolding WeakNoMatter testOf
+weak-no-matter t u members list e like =
+    ap₂ (λ (v : Verdict) (b : ℕ). elim (isAccepted v) as (λ k. Tested) [ true ↦ record { verdict = Accepted; bound = b } | false ↦ refusedTest v ])
+    (same-verdict t u members list like e) (same-bound t u members list like)
+
+pub weak-legal : WeakLegal
+unfolding WeakLegal badEntry
+weak-legal t members e q p o = rw (q, p, o) refl
+
+-- a longer list lets pass what passed
+still-passes : {list longer : List Capability} → WithWeak list longer → (c : Capability) → passes list c ≡ true → passes longer c ≡ true
+unfolding WeakPasses
+still-passes {list} {longer} w c e = byEq (c .rights) 4
+    (λ q. weak-passes longer c q)
+    (λ q. listed-passes longer c (each-listed longer c (λ b h. listed-still w b (c .target) (listed-each list c b (passed-listed list c e q) h))))
+
+module _ (t : Table) (members : ℕ) (list longer : List Capability) (w : WithWeak list longer) where
+  still-held : badHeld t members list ≡ false → badHeld t members longer ≡ false
+  unfolding badHeld
+  still-held e = missing 64 _ (λ n hn. byCases (has n members)
+      (λ i. ap₂ (λ (x y : Bool). x && y) i (missing 8 _ (λ j hj. byCases (has (slotAt t n j .target) members)
+      (λ o. rw o refl)
+      (λ o. rw o (ap not (still-passes w (slotAt t n j) (slot-passes t members list e n j hn hj i o)))))))
+      (λ i. rw i refl))
+
+  still-accepted : verdictNumber (verdictOf t members list) ≡ 0 → badList t members longer ≡ false → verdictOf t members longer ≡ Accepted
+  unfolding verdictOf
+  still-accepted e f = let r = no-row t members list e in rw (r .row1, r .row10, f, still-held (r .row12), r .row13) refl
+
+pub weak-changes-nothing : WeakChangesNothing
+unfolding WeakChangesNothing WeakEntriesFree
+weak-changes-nothing t members list longer e w f =
+    sym (accepted t members longer (still-accepted t members list longer w e f))
+    ∙ (λ i. record { verdict = Accepted; bound = weak-entries-free t members list longer w i })
+    ∙ accepted t members list (accepted-is (verdictOf t members list) (eq-eqb (verdictNumber (verdictOf t members list)) 0 e))

@@ -1,0 +1,114 @@
+//! Reads the lines of the files in `vectors/`: each is a JSON value.
+//! The tools read them by this file too, so that there is one reader.
+
+mod json;
+
+pub use json::Json;
+use yavrinks_model::confinement::Entry;
+use yavrinks_model::set;
+use yavrinks_model::table::{Capability, Record, Table};
+
+/// The values of a text that holds one JSON value a line.
+pub fn values(text: &str) -> Vec<Json> {
+    text.lines()
+        .map(|line| Json::parse(line).expect("JSON"))
+        .collect()
+}
+
+pub fn field<'a>(value: &'a Json, key: &str) -> &'a Json {
+    value.get(key).unwrap_or_else(|| panic!("field {key}"))
+}
+
+pub fn number(value: &Json) -> u64 {
+    value.as_number().expect("number")
+}
+
+pub fn byte(value: &Json) -> u8 {
+    u8::try_from(number(value)).expect("byte")
+}
+
+/// A byte that is 0 where it is missing.
+pub fn byte_or_zero(value: &Json, key: &str) -> u8 {
+    value.get(key).map_or(0, byte)
+}
+
+pub fn bytes(value: &Json) -> Vec<u8> {
+    value.as_list().expect("list").iter().map(byte).collect()
+}
+
+/// Bytes that are written as hexadecimal digits.
+pub fn hexadecimal(value: &Json) -> Vec<u8> {
+    let digits = value.as_text().expect("digits");
+    (0..digits.len())
+        .step_by(2)
+        .map(|at| u8::from_str_radix(&digits[at..at + 2], 16).expect("byte"))
+        .collect()
+}
+
+pub fn number_set(value: &Json) -> u64 {
+    set::of(bytes(value))
+}
+
+fn pair(value: &Json) -> (u8, u8) {
+    match value.as_list() {
+        Some([first, second]) => (byte(first), byte(second)),
+        _ => panic!("a pair was expected"),
+    }
+}
+
+pub fn pairs(value: &Json) -> Vec<(u8, u8)> {
+    value.as_list().expect("list").iter().map(pair).collect()
+}
+
+pub fn index(key: &str) -> usize {
+    key.parse().expect("number as key")
+}
+
+fn record(value: &Json) -> Record {
+    let known = ["status", "kind", "word", "stock", "slots"];
+    for key in value.as_object().expect("record").keys() {
+        assert!(known.contains(&key.as_str()), "field {key} in a record");
+    }
+    let mut record = Record::UNBORN;
+    record.status = byte_or_zero(value, "status");
+    record.kind = byte_or_zero(value, "kind");
+    record.word = u32::try_from(value.get("word").map_or(0, number)).expect("word");
+    record.stock = value.get("stock").map_or(0, number_set);
+    if let Some(slots) = value.get("slots") {
+        for (key, slot) in slots.as_object().expect("slots") {
+            let (target, rights) = pair(slot);
+            record.slots[index(key)] = Capability::new(target, rights);
+        }
+    }
+    record
+}
+
+pub fn table(value: &Json) -> Table {
+    let mut table = Table::unborn();
+    for (key, value) in value.as_object().expect("table") {
+        table.records[index(key)] = record(value);
+    }
+    table
+}
+
+/// A line of a file of tests: what is tested, and the number and the bound that are the answer.
+pub struct TestLine {
+    pub table: Table,
+    pub members: u64,
+    pub list: Vec<Entry>,
+    pub answer: (u8, u64),
+}
+
+impl TestLine {
+    pub fn of(value: &Json) -> TestLine {
+        TestLine {
+            table: table(field(value, "table")),
+            members: number_set(field(value, "members")),
+            list: pairs(field(value, "list")),
+            answer: (
+                byte(field(value, "number")),
+                number_set(field(value, "bound")),
+            ),
+        }
+    }
+}
