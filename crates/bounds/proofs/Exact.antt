@@ -12,12 +12,11 @@ use Rattle.mask.proofs.Tests.{byCases, and-true, and-intro}
 use Rattle.mask.proofs.Below.{any-ext}
 use Rattle.mask.proofs.Bits.{has-less, bits-lt}
 use Rattle.table.specs.declared.Capability.{Capability}
-use Rattle.table.specs.declared.Record.{Record}
 use Rattle.table.specs.declared.Table.{Table}
-use Rattle.table.specs.Cells.{isBorn}
 use Rattle.relation.specs.Relation.{Right, rd, wr, wk, tx, Can, Influenced, takesPart, holdsIn}
 use Rattle.relation.specs.Closure.{influencedSet, rowOf, link, bothTakePart, holdsStrong, reached}
 use Rattle.relation.proofs.Exact.{set-influenced, influenced-set, row-can, can-row}
+use Rattle.relation.proofs.Tables.{part-same}
 use Rattle.bounds.specs.StandIn.{standIn, testNode, testHeld, testHolding, boundOf}
 use Rattle.bounds.specs.Agreement.{AgreeOutside}
 use Rattle.bounds.specs.Exactness.{BoundExact, BoundBlind}
@@ -58,10 +57,8 @@ module _ (t : Table) (members : ℕ) (list : List Capability) where
 
 module _ (members : ℕ) (t u : Table) (same : AgreeOutside members t u) (list : List Capability) where
   node-same : (n : ℕ) → testNode t members n ≡ testNode u members n
-  unfolding testNode takesPart
-  node-same n = byCases (has n members) (λ e. rw (e, testNode) refl) (λ e. rw (e, testNode) (byCases (ltb n 64)
-      (λ l. ap (λ (r : Record). ltb n 64 && isBorn r) (same .records n (ltb-true n 64 l) e))
-      (λ l. rw l refl)))
+  unfolding testNode
+  node-same n = byCases (has n members) (λ e. rw (e, testNode) refl) (λ e. rw (e, testNode) (part-same t u n (λ l. same .records n l e)))
 
   held-same : (b : Right) (x y : ℕ) → x < 64 → testHeld t members list b x y ≡ testHeld u members list b x y
   unfolding testHeld holdsIn

@@ -1,7 +1,8 @@
 -- Chains and the bound, where the test is accepted: a chain leads to each object of the bound and to no other number, and the least of
--- them is the walk through the layers. A path of links that comes back to the stand-in can be cut there, so that every number of a
+-- them is the walk through the layers. Links into the stand-in lead nowhere new from it (`path-into`), so that every number of a
 -- chain is a non-member. Assumes nothing.
-use mathlib.Core.Path.{_≡_, refl, sym, _∙_, subst}
+use mathlib.Core.Path.{_≡_, refl, sym, _∙_}
+use mathlib.Core.Logic.{_≢_}
 use mathlib.Core.Bool.{Bool, true, false, not, _&&_}
 use mathlib.Core.List.{List}
 use Prim.Native.Nat.{ℕ, _<_}
@@ -15,7 +16,7 @@ use Rattle.table.specs.declared.Table.{Table}
 use Rattle.table.proofs.SoundFacts.{Sound}
 use Rattle.relation.specs.Relation.{Holding, takesPart}
 use Rattle.relation.specs.Closure.{bothTakePart, link, reached, influencedSet}
-use Rattle.relation.proofs.Reach.{Path, stay, step, reached-path, path-reached}
+use Rattle.relation.proofs.Reach.{path-into, reached-path, path-reached}
 use Rattle.bounds.specs.StandIn.{standIn, testNode, testHolding, boundOf}
 use Rattle.bounds.proofs.Exact.{node-low, bound-bit, bound-lt}
 use Rattle.confinement.proofs.TestFacts.{Facts}
@@ -78,18 +79,9 @@ module _ (t : Table) (members : ℕ) (list : List Capability) (d : Sound t) (ok 
   unfolding influencedSet
   bound-is z h = bound-bit t members list z h ∙ rw (node-x t members list d ok, influencedSet) refl
 
-  -- a path of links, cut where it comes back to the stand-in
-  cut : {P : Type 0} {y : ℕ} → Path (link H) X y → (y ≡ X → P) → (Path edge X y → P) → P
-  cut stay f g = f refl
-  cut {y = z} (step {y = y} p e) f g = byCases (has z members)
-      (λ m. f (node-x-only z (link-nodes y z e .1) m))
-      (λ m. cut p
-      (λ q. g (step stay (edge-intro X z m (subst (λ (u : ℕ). link H u z ≡ true) q e))))
-      (λ q. g (step q (edge-intro y z m e))))
-
-  keep : {y z : ℕ} → Path edge y z → Path (link H) y z
-  keep stay = stay
-  keep (step {y = y} {z = z} p e) = step (keep p) (edge-facts y z e .linked)
+  -- a link to anybody but the stand-in leads to a non-member
+  edge-beside : (u v : ℕ) → v ≢ X → link H u v ≡ true → edge u v ≡ true
+  edge-beside u v n e = byCases (has v members) (λ m. absurd (n (node-x-only v (link-nodes u v e .1) m))) (λ m. edge-intro u v m e)
 
   pub bound-out : (z : ℕ) → has z (boundOf t members list) ≡ true → has z members ≡ false
   bound-out z e = not-true _ (and-true (has z (reached (link H) X)) _ (sym (bound-is z (bound-low z e)) ∙ e) .1)
@@ -101,7 +93,7 @@ module _ (t : Table) (members : ℕ) (list : List Capability) (d : Sound t) (ok 
   bound-reached z e =
       let h = bound-low z e in
       let p = reached-path (link H) X z h (and-true (has z (reached (link H) X)) _ (sym (bound-is z h) ∙ e) .0) in
-      cut p (λ q. absurd (bound-apart z e (sym q))) (λ q. path-reached edge edge-low X z (ok .low) q)
+      path-reached edge edge-low X z (ok .low) (path-into (link H) edge X edge-beside p)
 
   pub bound-walks : (z : ℕ) → (e : has z (boundOf t members list) ≡ true) → Walks edge edge-low z (bound-low z e) X
   bound-walks z e = least-walks edge edge-low z (bound-low z e) X (ok .low) (bound-apart z e) (bound-reached z e)
@@ -125,4 +117,4 @@ module _ (t : Table) (members : ℕ) (list : List Capability) (d : Sound t) (ok 
   chain-bound {z} c = chain-end c (λ y e.
       let f = edge-facts y z e in
       bound-is z (edge-low y z e .1)
-      ∙ and-intro _ _ (path-reached (link H) link-low X z (ok .low) (keep (chain-path edge edge-low z (edge-low y z e .1) c))) (rw (f .out) refl))
+      ∙ and-intro _ _ (path-reached (link H) link-low X z (ok .low) (path-into edge (link H) X (λ u v n q. edge-facts u v q .linked) (chain-path edge edge-low z (edge-low y z e .1) c))) (rw (f .out) refl))

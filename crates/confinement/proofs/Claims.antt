@@ -9,7 +9,7 @@ use mathlib.Core.List.{List}
 use Prim.Native.Nat.{ℕ}
 use lib.Dec.{ltb, eqb}
 use lib.ListN.{length}
-use borrow.Author.Tests.{ltb-true, eqb-true, eq-eqb}
+use borrow.Author.Tests.{eqb-true, eq-eqb}
 use Rattle.mask.specs.Sets.{has, anyBelow}
 use Rattle.mask.proofs.Tests.{byCases, byEq, clash, and-true, and-intro, and-false, or-cases, or-left, or-right, imply-intro}
 use Rattle.mask.proofs.Below.{any-ext}
@@ -17,9 +17,10 @@ use Rattle.mask.proofs.Bits.{has-zero}
 use Rattle.table.specs.declared.Capability.{Capability}
 use Rattle.table.specs.declared.Record.{Record}
 use Rattle.table.specs.declared.Table.{Table}
-use Rattle.table.specs.Cells.{slotAt, isAlive, isBorn, isEmpty}
+use Rattle.table.specs.Cells.{slotAt, isAlive, isEmpty}
 use Rattle.table.specs.Soundness.{sound}
-use Rattle.relation.specs.Relation.{Right, rd, wr, wk, tx, bitAt, takesPart}
+use Rattle.relation.specs.Relation.{Right, rd, wr, wk, tx, bitAt}
+use Rattle.relation.proofs.Tables.{part-same}
 use Rattle.bounds.specs.StandIn.{entryAt, listed, boundOf}
 use Rattle.bounds.specs.Exactness.{BoundBlind, WithWeak, WeakEntriesFree}
 use Rattle.bounds.proofs.Exact.{bound-blind}
@@ -69,17 +70,11 @@ module _ (t u : Table) (members : ℕ) (list : List Capability) (like : AlikeBut
   same-members = ap (λ (b : Bool). not (anyBelow 64 (λ n. has n members)) || b)
       (any-ext 64 _ _ (λ n h. ap (λ (r : Record). has n members && not (isAlive r)) (like .records n h)))
 
-  same-part : (y : ℕ) → takesPart t y ≡ takesPart u y
-  unfolding takesPart
-  same-part y = byCases (ltb y 64)
-      (λ e. ap (λ (r : Record). ltb y 64 && isBorn r) (like .records y (ltb-true y 64 e)))
-      (λ e. rw e refl)
-
   same-list : badList t members list ≡ badList u members list
   unfolding badList badEntry
   same-list = ap (λ (b : Bool). ltb 8 (length list) || b)
       (any-ext (length list) _ _ (λ k h. let e = entryAt list k in
-      ap (λ (b : Bool). eqb (e .rights) 0 || ltb 15 (e .rights) || not b || has (e .target) members) (same-part (e .target))))
+      ap (λ (b : Bool). eqb (e .rights) 0 || ltb 15 (e .rights) || not b || has (e .target) members) (part-same t u (e .target) (like .records (e .target)))))
 
   -- a member's slot that differs offends in neither
   fine : (c : Capability) → emptyOrWeak c ≡ true → (not (has (c .target) members) && not (passes list c)) ≡ false

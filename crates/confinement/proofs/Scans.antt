@@ -22,6 +22,7 @@ use Rattle.relation.proofs.Saturation.{bit-high}
 use Rattle.access.proofs.TableWords.{outside-facts, outside-intro}
 use Rattle.bounds.specs.declared.EntryList.{EntryList}
 use Rattle.bounds.specs.StandIn.{entriesOf, entryAt, listed}
+use Rattle.bounds.proofs.Weak.{lists}
 use Rattle.confinement.specs.Refusals.{badMembers, badEntry, badList, rightListed, allListed, passes, badHeld, memberHeld}
 use Rattle.confinement.specs.Helpers.{entryRefused, listRefused, listedTo, listedRights, slotUnlisted, slotNamesMember}
 
@@ -114,20 +115,16 @@ pub listed-all : (l : EntryList) (y k : ℕ) → k ≤ l .count → l .count ≤
 unfolding listedRights
 listed-all l y k h g = let e : k ≡ length (entriesOf l) = omega (arith, entries-length l) in ap (listedTo (entriesOf l) y) e
 
--- the entry is for y and has the right
-abbrev matching : List Capability → Right → ℕ → ℕ → Bool
-matching list b y k = eqb (entryAt list k .target) y && has (bitAt b) (entryAt list k .rights)
-
-listed-last : (list : List Capability) (b : Right) (y n : ℕ) → has (bitAt b) (listedTo list y (suc n)) ≡ (has (bitAt b) (listedTo list y n) || matching list b y n)
+listed-last : (list : List Capability) (b : Right) (y n : ℕ) → has (bitAt b) (listedTo list y (suc n)) ≡ (has (bitAt b) (listedTo list y n) || lists (entryAt list n) b y)
 unfolding listedTo
 listed-last list b y n = byCases (eqb (entryAt list n .target) y)
     (λ e. rw (e, listedTo) (has-union (bitAt b) _ _ (omega (arith, bit-high b))))
     (λ e. rw (e, listedTo) (sym (or-false _)))
 
-listed-bits : (list : List Capability) (b : Right) (y n : ℕ) → has (bitAt b) (listedTo list y n) ≡ anyBelow n (matching list b y)
+listed-bits : (list : List Capability) (b : Right) (y n : ℕ) → has (bitAt b) (listedTo list y n) ≡ anyBelow n (λ k. lists (entryAt list k) b y)
 unfolding listedTo anyBelow
 listed-bits list b y zero = has-zero (bitAt b)
-listed-bits list b y (suc n) = listed-last list b y n ∙ ap (λ (x : Bool). x || matching list b y n) (listed-bits list b y n) ∙ sym (any-last n _)
+listed-bits list b y (suc n) = listed-last list b y n ∙ ap (λ (x : Bool). x || lists (entryAt list n) b y) (listed-bits list b y n) ∙ sym (any-last n _)
 
 -- the bits of the union are what is listed
 pub listed-rights : (list : List Capability) (b : Right) (y : ℕ) → has (bitAt b) (listedRights list y) ≡ listed list b y

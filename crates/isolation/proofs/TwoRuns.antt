@@ -14,9 +14,8 @@ use borrow.Author.Tests.{ltb-true, not-true}
 use Rattle.mask.specs.Sets.{has}
 use Rattle.mask.proofs.Tests.{byCases, and-true}
 use Rattle.table.specs.declared.Capability.{Capability}
-use Rattle.table.specs.declared.Record.{Record}
 use Rattle.table.specs.declared.Table.{Table}
-use Rattle.table.specs.Cells.{IsTable, slotAt, bornAt, isBorn}
+use Rattle.table.specs.Cells.{IsTable, slotAt, bornAt}
 use Rattle.table.proofs.Cells.{table-sized}
 use Rattle.table.proofs.SoundFacts.{sound-facts}
 use Rattle.relation.specs.Relation.{takesPart}
@@ -27,6 +26,7 @@ use Rattle.bounds.proofs.Exact.{bound-same}
 use Rattle.confinement.proofs.TestFacts.{accepted-facts}
 use Rattle.requests.specs.Asks.{Ask}
 use Rattle.steps.specs.Steps.{runTable}
+use Rattle.relation.proofs.Tables.{part-same}
 use Rattle.isolation.specs.Clean.{Clean, cleanAtStart, cleanAtEnd, cleanRequests, cleanReplies}
 use Rattle.isolation.specs.Demand.{AgreeOn, Alike, TwoRuns}
 use Rattle.isolation.proofs.Invariant.{wkAlone, Isolated, agree-refl}
@@ -48,17 +48,11 @@ clean-out t members list n e =
     (ltb-true n 64 (and-true (ltb n 64) (bornAt t n) (q .0) .0), not-true _ (q .1))
 
 module _ (t u : Table) (members : ℕ) (list : List Capability) (agree : AgreeOutside members t u) where
-  part-same : (n : ℕ) → has n members ≡ false → takesPart t n ≡ takesPart u n
-  unfolding takesPart
-  part-same n o = byCases (ltb n 64)
-      (λ l. ap (λ (r : Record). ltb n 64 && isBorn r) (agree .records n (ltb-true n 64 l) o))
-      (λ l. rw l refl)
-
   clean-same-at : (n : ℕ) → cleanAtStart t members list n ≡ cleanAtStart u members list n
   unfolding cleanAtStart
   clean-same-at n = byCases (has n members)
       (λ m. cc (out (takesPart t n), out (takesPart u n), m, bound-same members t u agree list))
-      (λ m. ap₂ (λ (x : Bool) (b : ℕ). x && not (has n members) && not (has n b)) (part-same n m) (bound-same members t u agree list))
+      (λ m. ap₂ (λ (x : Bool) (b : ℕ). x && not (has n members) && not (has n b)) (part-same t u n (λ l. agree .records n l m)) (bound-same members t u agree list))
     where
       out : (x : Bool) → (x && false) ≡ false
       out true = refl

@@ -10,7 +10,7 @@ use Rattle.mask.proofs.Tests.{byCases, and-true, and-intro}
 use Rattle.mask.proofs.Below.{any-intro, any-elim}
 use Rattle.table.specs.declared.Record.{Record}
 use Rattle.table.specs.declared.Table.{Table}
-use Rattle.table.specs.Cells.{recordAt, slotAt, slotOf, statusAt, bornAt}
+use Rattle.table.specs.Cells.{recordAt, slotAt, slotOf, statusAt, isBorn, bornAt}
 use Rattle.table.proofs.Cells.{record-high}
 use Rattle.table.proofs.SoundFacts.{Sound, born-pos, pos-born}
 use Rattle.relation.specs.Relation.{Right, bitAt, takesPart, holdsIn}
@@ -25,6 +25,13 @@ unfolding takesPart
 takes-part t d n h = and-intro (ltb n 64) (bornAt t n)
     (byCases (ltb n 64) (λ e. e) (λ e. absurd (omega (arith, ap (λ (r : Record). r .status) (record-high t n (d .size) (ltb-false n 64 e))))))
     (pos-born (recordAt t n) (d .records n .low) h)
+
+-- that goes by the record
+pub part-same : (t u : Table) (n : ℕ) → (n < 64 → recordAt t n ≡ recordAt u n) → takesPart t n ≡ takesPart u n
+unfolding takesPart
+part-same t u n f = byCases (ltb n 64)
+    (λ l. ap (λ (r : Record). ltb n 64 && isBorn r) (f (ltb-true n 64 l)))
+    (λ l. rw l refl)
 
 -- a right in a slot is held, and a held right is in a slot -----------------------------
 pub slot-held : (t : Table) (b : Right) (k : ℕ) → has (bitAt b) (slotOf (t .slots) k .rights) ≡ true → holdsIn t b (k / 8) (slotOf (t .slots) k .target) ≡ true
