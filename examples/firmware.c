@@ -1,13 +1,14 @@
 /*
- * A small main loop over the capability table: load an image, serve the mailboxes, test a newly loaded
- * subsystem and say how it gets at an object, test a routine that reads more objects than a list has room for,
- * judge a table of an older rig by the same test, write the image back.
+ * A small main loop over the capability table: load an image, serve the mailboxes, show that a copy of nothing
+ * clears no channel, test a newly loaded subsystem and say how it gets at an object, test a routine that reads more
+ * objects than a list has room for, judge a table of an older rig by the same test, write the image back.
  *
  *     firmware IMAGE NEW_IMAGE
  *
  * Each object has a mailbox, and its routine puts requests there. Whose mailbox it is, is all that is known
  * of who asks; what the routine wrote of that is not believed. The requests are those of document 01's
- * examples 6, 7, 9 and 10 on its Table K, one that lies about its actor, and one that is no request at all.
+ * examples 6, 7, 9 and 10 on its Table K, one that lies about its actor, one that is no request at all, and
+ * copies of empty slots.
  * Exit status: 0, or 1 when a file cannot be used, the table is refused, a test is not answered as it should
  * be, or the library is of another version.
  */
@@ -96,6 +97,44 @@ static void serve(void)
         number = captable_step(&table, request, length);
         printf("%s: %u, %s\n", mailboxes[owner].what, number, captable_reason(number));
     }
+}
+
+/* What a slot holds, for the log. */
+static void show_slot(size_t n, size_t j)
+{
+    captable_capability held = captable_slot(&table, n, j);
+
+    printf("slot %u of %u is ", (unsigned)j, (unsigned)n);
+    if (held.target == 0 && held.rights == 0)
+        printf("empty\n");
+    else
+        printf("target %u, rights %u\n", held.target, held.rights);
+}
+
+/* A copy that comes out empty changes no slot, though the request is done. Slot 0 of 0 is its channel to 1, whose
+ * slots are all empty: 0 fetches one of them into that very slot, and can still read through it. Nor can 5 take
+ * a capability back from 10 by storing an empty slot over it. A revoke does that. */
+static void copy_nothing(void)
+{
+    struct mailbox *box = mailboxes;
+
+    box[0].what = "0 fetches 1's empty slot 3 into its slot 0";
+    box[0].length = captable_put_fetch(box[0].bytes, 0, 0, 3, 0);
+    box[5].what = "5 stores its slot 0 into slot 2 of 10";
+    box[5].length = captable_put_store(box[5].bytes, 5, 7, 0, 2);
+    serve();
+    show_slot(0, 0);
+    show_slot(10, 2);
+    box[0].what = "0 reads through slot 0";
+    box[0].length = captable_put_read(box[0].bytes, 0, 0);
+    box[5].what = "5 stores its empty slot 3 into slot 2 of 10";
+    box[5].length = captable_put_store(box[5].bytes, 5, 7, 3, 2);
+    serve();
+    show_slot(10, 2);
+    box[5].what = "5 revokes slot 2 of 10";
+    box[5].length = captable_put_revoke(box[5].bytes, 5, 7, 2);
+    serve();
+    show_slot(10, 2);
 }
 
 /* Reads the image into the table. */
@@ -250,6 +289,7 @@ int main(int count, char **words)
     ask_again();
     serve();
     printf("3's word is %lu\n", (unsigned long)table.records[3].word);
+    copy_nothing();
     if (admit("subsystem", &table, members, list, sizeof list) != CAPTABLE_DONE || explain(2) != 0)
         return 1;
     if (read_materials() != 0 || bring_in() != 0)

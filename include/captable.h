@@ -2,7 +2,7 @@
  * captable.h: the proved capability table for firmware in C and C++.
  *
  * The table is one fixed table of 64 objects with eight capabilities each. Its rules are document 01's,
- * with requests 2.1 to 2.3 of document 02, and every answer is a number of theirs: 0 for done, or why not
+ * with requests 2.1 to 2.4 of document 02, and every answer is a number of theirs: 0 for done, or why not
  * (enum captable_number).
  *
  * Link with libcaptable.a, which `rt staticlib captable` proves and writes. It needs memcpy and memset
@@ -68,9 +68,9 @@ extern "C" {
 
 /* ---- version -------------------------------------------------------------------------------------- */
 
-/* The version of the calls, 0.4.0: the first number times 65,536, the second times 256, and the third.
+/* The version of the calls, 0.5.0: the first number times 65,536, the second times 256, and the third.
  * captable_version gives that of the archive. Compare the two at start. */
-#define CAPTABLE_VERSION 1024
+#define CAPTABLE_VERSION 1280
 
 /* ---- sizes ---------------------------------------------------------------------------------------- */
 
@@ -101,8 +101,8 @@ extern "C" {
  *
  * A test measures every call and holds these numbers to it (model/peer/tests/stack.rs).
  */
-#define CAPTABLE_STACK_STEP 12616
-#define CAPTABLE_STACK_STEP_BY_VALUE 10536
+#define CAPTABLE_STACK_STEP 12600
+#define CAPTABLE_STACK_STEP_BY_VALUE 10520
 #define CAPTABLE_STACK_SOUND 4200
 #define CAPTABLE_STACK_ACCESS 14424
 #define CAPTABLE_STACK_TEST 12456
@@ -149,7 +149,7 @@ enum captable_number {
     CAPTABLE_TABLE_UNSOUND = 1,         /* the table is not sound */
     CAPTABLE_FIELD_INVALID = 2,         /* a field out of range, a list too long, or bytes that are no request */
     CAPTABLE_ACTOR_UNFIT = 3,           /* the actor is not alive, or passive */
-    CAPTABLE_SLOT_EMPTY = 4,            /* the slot that is used is empty */
+    CAPTABLE_SLOT_EMPTY = 4,            /* the slot that is used, t, is empty; one that is copied may be empty */
     CAPTABLE_TARGET_DEAD = 5,           /* the target is dead */
     CAPTABLE_RIGHT_ABSENT = 6,          /* the slot lacks the right that is needed */
     CAPTABLE_TARGET_PASSIVE = 7,        /* a send to a passive target */
@@ -227,7 +227,8 @@ static inline const char *captable_reason(uint8_t number)
 
 /* ---- structs -------------------------------------------------------------------------------------- */
 
-/* What a slot holds: a target and rights over it. Target 0 with rights 0 is an empty slot. */
+/* What a slot holds: a target and rights over it. Target 0 with rights 0 is an empty slot. A filled slot of an
+ * object that stays alive is emptied by a revoke, and by nothing else; a destroy takes all slots with the object. */
 typedef struct captable_capability {
     uint8_t target;
     uint8_t rights;
@@ -330,6 +331,12 @@ CAPTABLE_ANSWER uint8_t captable_sound(captable_table table);
  * and take the steps in the main loop (examples/interrupts.c).
  *
  * The actor in the bytes is believed: captable_stamp, below, before the step.
+ *
+ * An empty copy keeps the destination. A fetch, a store, a send or an allocate copies slots, and a copy comes out
+ * empty in two ways: the slot that is copied is empty; or a fetch through wk without rd weakens a slot that has
+ * neither rd nor wk (rights 2, 8 or 10). Such a copy changes no slot: the destination holds what it held before.
+ * The request is done all the same and answered 0, so 0 does not say that something came: look at the slot. What
+ * empties a slot of an object that stays alive is a revoke, and nothing else.
  *
  * The bytes are the code and then document 01's fields in their order, a byte each; a word is 4 bytes and
  * a part 8, the most significant first; a list is its count and then its pairs (actor's slot, destination
@@ -478,7 +485,8 @@ static inline size_t captable_put_write(uint8_t *out, uint8_t actor, uint8_t t, 
     return at + captable_put_number(out + at, word, 4);
 }
 
-/* The target's slot i goes to the actor's slot j, weakened if rd is absent. Needs rd or wk. */
+/* The target's slot i goes to the actor's slot j, weakened if rd is absent. Needs rd or wk. A copy that comes out
+ * empty leaves slot j as it was: one of an empty slot, and without rd one of rights 2, 8 or 10. */
 static inline size_t captable_put_fetch(uint8_t *out, uint8_t actor, uint8_t t, uint8_t i, uint8_t j)
 {
     size_t at = captable_put_slots(out, CAPTABLE_FETCH, actor, t);
@@ -487,7 +495,7 @@ static inline size_t captable_put_fetch(uint8_t *out, uint8_t actor, uint8_t t, 
     return at + 2;
 }
 
-/* The actor's slot i goes to the target's slot j. Needs wr. */
+/* The actor's slot i goes to the target's slot j. Needs wr. If slot i is empty, slot j is left as it was. */
 static inline size_t captable_put_store(uint8_t *out, uint8_t actor, uint8_t t, uint8_t i, uint8_t j)
 {
     size_t at = captable_put_slots(out, CAPTABLE_STORE, actor, t);
@@ -496,7 +504,8 @@ static inline size_t captable_put_store(uint8_t *out, uint8_t actor, uint8_t t, 
     return at + 2;
 }
 
-/* The target's slot j is emptied. Needs wr. */
+/* The target's slot j is emptied. Needs wr. No other request empties a slot of an object that stays alive. To empty
+ * a slot of its own, an object needs wr over itself. */
 static inline size_t captable_put_revoke(uint8_t *out, uint8_t actor, uint8_t t, uint8_t j)
 {
     size_t at = captable_put_slots(out, CAPTABLE_REVOKE, actor, t);
@@ -504,8 +513,9 @@ static inline size_t captable_put_revoke(uint8_t *out, uint8_t actor, uint8_t t,
     return at + 1;
 }
 
-/* The word and the pairs go to an active target, and its slot `reply` gets (actor, tx) unless that is
- * CAPTABLE_NO_REPLY. Needs tx. */
+/* The word and the pairs go to an active target, and then its slot `reply` gets (actor, tx) unless that is
+ * CAPTABLE_NO_REPLY. Needs tx. Pairs apply left to right, and a later one to the same slot wins only if its copy is
+ * not empty; a slot that gets none but empty copies is left as it was. */
 static inline size_t captable_put_send(uint8_t *out, uint8_t actor, uint8_t t, uint32_t word, const uint8_t *pairs,
                                        uint8_t count, uint8_t reply)
 {
@@ -519,7 +529,8 @@ static inline size_t captable_put_send(uint8_t *out, uint8_t actor, uint8_t t, u
 }
 
 /* n, of the actor's stock, becomes alive with the kind, word 0, the part as its stock and the copied pairs;
- * the actor's slot i gets all rights over it. */
+ * the actor's slot i gets all rights over it. Pairs apply as in a send: the new object's slots are empty, but for
+ * those where a filled copy lands. */
 static inline size_t captable_put_allocate(uint8_t *out, uint8_t actor, uint8_t n, uint8_t kind, uint64_t part, uint8_t i,
                                            const uint8_t *pairs, uint8_t count)
 {
@@ -534,7 +545,8 @@ static inline size_t captable_put_allocate(uint8_t *out, uint8_t actor, uint8_t 
     return at + captable_put_pairs(out + at, pairs, count);
 }
 
-/* The target becomes dead, and its stock joins the actor's. Needs wr. */
+/* The target becomes dead: it loses its word and slots and keeps its kind, and its stock joins the actor's. Needs
+ * wr. */
 static inline size_t captable_put_destroy(uint8_t *out, uint8_t actor, uint8_t t)
 {
     return captable_put_slots(out, CAPTABLE_DESTROY, actor, t);

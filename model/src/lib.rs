@@ -25,6 +25,7 @@
 //! | 2.1 Show me the chain | `chain`: checks, links, the shortest chain that comes first |
 //! | 2.2 Bring in take-and-grant tables | `take_grant`: checks, the walk over the entities, what rights become |
 //! | 2.3 Weak capabilities need no entry | `confinement`: `passes`, the amended refusal 12 |
+//! | 2.4 An empty copy keeps the destination | `step`: `landed`, where every copy lands |
 //!
 //! Beside these, `links` leads to the bound a second way, as the proved code has it too: what can be
 //! reached from the holder of the list, link by link. Of requests and lists as bytes document 01 says no

@@ -1,5 +1,6 @@
 //! The eight requests: what each needs, what refuses it and what it does.
 //! A step exists in two forms, table in and table out, and on a table lent to be changed.
+//! A copy that comes out empty changes no slot, as 2.4 of document 02 has it.
 
 use crate::refusal::{reply_number, Refusal};
 use crate::set;
@@ -312,10 +313,11 @@ fn apply(table: &mut Table, request: &Request) {
         Request::Write { word, .. } => table.record_mut(used.target).word = *word,
         Request::Fetch { i, j, .. } => {
             let found = table.record(used.target).slots[usize::from(*i)];
-            table.record_mut(actor).slots[usize::from(*j)] = fetched(used, found);
+            copy_to(&mut table.record_mut(actor).slots, *j, fetched(used, found));
         }
         Request::Store { i, j, .. } => {
-            table.record_mut(used.target).slots[usize::from(*j)] = before.slots[usize::from(*i)];
+            let copy = before.slots[usize::from(*i)];
+            copy_to(&mut table.record_mut(used.target).slots, *j, copy);
         }
         Request::Revoke { j, .. } => {
             table.record_mut(used.target).slots[usize::from(*j)] = Capability::EMPTY;
@@ -376,7 +378,22 @@ fn apply_destroy(table: &mut Table, actor: u8, target: u8) {
 /// destination may be the actor itself.
 fn copy_pairs(source: &Slots, list: &[Pair], destination: &mut Slots) {
     for &(from, to) in list {
-        destination[usize::from(to)] = source[usize::from(from)];
+        copy_to(destination, to, source[usize::from(from)]);
+    }
+}
+
+/// Copies into one slot.
+fn copy_to(slots: &mut Slots, to: u8, copy: Capability) {
+    let slot = &mut slots[usize::from(to)];
+    *slot = landed(*slot, copy);
+}
+
+/// What a slot holds after a copy to it: the copy, or what it held if the copy is empty.
+pub fn landed(held: Capability, copy: Capability) -> Capability {
+    if copy.is_empty() {
+        held
+    } else {
+        copy
     }
 }
 

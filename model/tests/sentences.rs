@@ -1,4 +1,5 @@
-//! Sentences of document 01 that its examples leave out, in its order, each on a small table.
+//! Sentences of document 01 that its examples leave out, in its order, each on a small table. Those on empty
+//! copies are as 2.4 of document 02 amends them.
 
 use yavrinks_model::confinement::confinement_test;
 use yavrinks_model::image::{encode, read, write, IMAGE_LENGTH};
@@ -66,13 +67,14 @@ fn a_send_to_oneself_copies_the_slots_from_before() {
 }
 
 #[test]
-fn later_pairs_win_empty_slots_empty_and_the_reply_comes_last() {
+fn later_pairs_win_unless_empty_and_the_reply_comes_last() {
     let before = self_sender();
     let (_, after) = step(&before, &send(&[(0, 3), (1, 3)], 8));
     assert_eq!(after.records[0].slots[3], Capability::new(2, RD));
+    // Slot 5 is empty: slot 3 keeps what the pair before brought, slot 0 what it held.
     let (_, after) = step(&before, &send(&[(1, 3), (5, 3), (5, 0)], 8));
-    assert_eq!(after.records[0].slots[3], Capability::EMPTY);
-    assert_eq!(after.records[0].slots[0], Capability::EMPTY);
+    assert_eq!(after.records[0].slots[3], Capability::new(2, RD));
+    assert_eq!(after.records[0].slots[0], Capability::new(0, TX));
     let (_, after) = step(&before, &send(&[(1, 3)], 3));
     assert_eq!(after.records[0].slots[3], Capability::new(0, TX));
 }

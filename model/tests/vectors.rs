@@ -1,23 +1,21 @@
 //! The test vectors in `vectors/`: steps, potential access, tests, inputs of `confine`, chains and
 //! imports.
-//! Every line of every file is compared in full. Where a later request amends a line of the base, the line
-//! is named here, and what it says now is worked in another way.
+//! Every line of every file is compared in full. Where a later request amends a line of the base or of an
+//! earlier request, the line is named here, and what it says now is worked in another way.
 
 mod lines;
 
 use std::fs;
 use std::path::PathBuf;
 
-use lines::{
-    byte, byte_or_zero, bytes, field, hexadecimal, index, number, number_set, pairs, table,
-};
-use lines::{Json, TestLine};
+use lines::{byte, bytes, field, hexadecimal, index, number_set, pairs, table};
+use lines::{Json, StepLine, TestLine};
 use yavrinks_model::access::{potential_access, Access};
 use yavrinks_model::chain::chain;
 use yavrinks_model::confine::confine;
 use yavrinks_model::confinement::confinement_test;
 use yavrinks_model::set;
-use yavrinks_model::step::{step, step_in_place, Code, Fields, Request};
+use yavrinks_model::step::{step, step_in_place, Request};
 use yavrinks_model::table::{Capability, Table, WK};
 use yavrinks_model::take_grant::import;
 
@@ -33,53 +31,74 @@ fn values(file: &str, count: usize) -> Vec<Json> {
     values
 }
 
-/// A request has the fields that its code has, and no others.
-fn request(value: &Json) -> Request {
-    let (code, actor) = (byte(field(value, "code")), byte(field(value, "actor")));
-    let word = value.get("word").map_or(0, number);
-    let Some(known) = Code::of(code) else {
-        return Request::Unknown { code, actor };
-    };
-    known.request(Fields {
-        actor,
-        t: byte_or_zero(value, "t"),
-        i: byte_or_zero(value, "i"),
-        j: byte_or_zero(value, "j"),
-        n: byte_or_zero(value, "n"),
-        kind: byte_or_zero(value, "kind"),
-        part: value.get("part").map_or(0, number_set),
-        word: u32::try_from(word).expect("word"),
-        list: value.get("list").map_or(Vec::new(), pairs),
-        reply: byte_or_zero(value, "reply"),
-    })
+/// Compares a file of steps, in both forms of the step, but for the lines that are amended: of these it
+/// gives number and content.
+fn expect_steps(file: &str, count: usize, amended: &[usize]) -> Vec<(usize, StepLine)> {
+    let mut left = Vec::new();
+    for (number, value) in (1..).zip(values(file, count)) {
+        let line = StepLine::of(&value);
+        if amended.contains(&number) {
+            left.push((number, line));
+        } else {
+            expect_step(&line, &line.answer, &format!("{file}, line {number}"));
+        }
+    }
+    left
 }
 
-/// Compares a file of steps, in both forms of the step.
-fn expect_steps(file: &str, count: usize) {
-    for (line, value) in (1..).zip(values(file, count)) {
-        let before = table(field(&value, "table"));
-        let request = request(field(&value, "request"));
-        let reply = byte(field(&value, "reply"));
-        let after = match field(&value, "after") {
-            Json::Null => before.clone(),
-            changed => table(changed),
-        };
-        let outcome = step(&before, &request);
-        assert_eq!(outcome, (reply, after.clone()), "{file}, line {line}");
-        let mut lent = before;
-        assert_eq!(step_in_place(&mut lent, &request), reply);
-        assert_eq!(lent, after, "{file}, line {line}");
+fn expect_step(line: &StepLine, answer: &(u8, Table), place: &str) {
+    assert_eq!(&step(&line.table, &line.request), answer, "{place}");
+    let mut lent = line.table.clone();
+    let reply = step_in_place(&mut lent, &line.request);
+    assert_eq!(&(reply, lent), answer, "{place}");
+}
+
+/// The lines of the base's steps that 2.4 amends, then those of the steps of 2.3. Each is a store of an
+/// empty slot on a filled one.
+const AMENDED_BY_2_4: [usize; 1] = [105];
+const AMENDED_BY_2_4_IN_2_3: [usize; 1] = [83];
+
+/// What an amended line says now: the reply as it was, and the table too but for the slot that was emptied,
+/// which keeps what it held.
+fn amended_answer(line: &StepLine) -> (u8, Table) {
+    let Request::Store { actor, t, i, j } = line.request else {
+        panic!("a store was expected: {:?}", line.request);
+    };
+    let own = line.table.record(actor).slots;
+    assert!(own[usize::from(i)].is_empty());
+    let target = own[usize::from(t)].target;
+    let held = line.table.record(target).slots[usize::from(j)];
+    let (reply, mut after) = line.answer.clone();
+    let slot = &mut after.record_mut(target).slots[usize::from(j)];
+    assert!(slot.is_empty() && !held.is_empty());
+    *slot = held;
+    (reply, after)
+}
+
+/// Compares a file of steps; the amended lines with what they say now.
+fn expect_amended_steps(file: &str, count: usize, amended: &[usize]) {
+    let left = expect_steps(file, count, amended);
+    assert_eq!(left.len(), amended.len(), "{file}");
+    for (number, line) in left {
+        let answer = amended_answer(&line);
+        assert_eq!(answer, (0, line.table.clone()), "{file}, line {number}");
+        expect_step(&line, &answer, &format!("{file}, line {number}"));
     }
 }
 
 #[test]
 fn steps() {
-    expect_steps("steps.jsonl", 360);
+    expect_amended_steps("steps.jsonl", 360, &AMENDED_BY_2_4);
 }
 
 #[test]
 fn steps_of_2_3() {
-    expect_steps("2.3/steps.jsonl", 160);
+    expect_amended_steps("2.3/steps.jsonl", 160, &AMENDED_BY_2_4_IN_2_3);
+}
+
+#[test]
+fn steps_of_2_4() {
+    expect_steps("2.4/steps.jsonl", 160, &[]);
 }
 
 #[test]
@@ -152,6 +171,11 @@ fn tests() {
 #[test]
 fn tests_of_2_3() {
     expect_tests("2.3/tests.jsonl", 80, &[]);
+}
+
+#[test]
+fn tests_of_2_4() {
+    expect_tests("2.4/tests.jsonl", 80, &[]);
 }
 
 #[test]

@@ -4,7 +4,7 @@ use mathlib.Core.List.{List, [], _∷_}
 use Prim.Native.Nat.{ℕ}
 use Rattle.table.specs.declared.Capability.{Capability}
 use Rattle.table.specs.declared.Table.{Table}
-use Rattle.table.specs.Cells.{emptySlot, slotAt, putSlot, hasRd}
+use Rattle.table.specs.Cells.{isEmpty, emptySlot, slotAt, putSlot, hasRd}
 use Rattle.requests.specs.declared.Pair.{Pair}
 use Rattle.refusals.specs.declared.Need.the-variants.{ReadOrWeak}
 use Rattle.refusals.specs.Refusals.{needMet}
@@ -17,15 +17,16 @@ weaken c = elim (needMet ReadOrWeak (c .rights)) [ true ↦ record { target = c 
 unfoldable pub fetched : ℕ → Capability → Capability
 fetched rights c = elim (hasRd rights) [ true ↦ c | false ↦ weaken c ]
 
--- what a destination slot holds after a copy, of what it held and the copy: "Copying an empty slot empties the destination". What
--- it held plays no part; the name is where that rule stands
+-- what a destination slot holds after a copy, of what it held and the copy. Document 02, 2.4: "a copy that comes out empty, from an
+-- empty slot or from weakening, changes no slot"
 unfoldable pub landed : Capability → Capability → Capability
-landed old copy = copy
+landed old copy = elim (isEmpty copy) [ true ↦ old | false ↦ copy ]
 
 abbrev pub copyTo : Table → ℕ → ℕ → Capability → Table
 copyTo tb n j c = putSlot tb n j (landed (slotAt tb n j) c)
 
--- "Pairs apply left to right; a later one to the same slot wins." The source is the actor's slots as they were
+-- "Pairs apply left to right; a later one to the same slot wins", where it is not empty (02, 2.4). The source is the actor's slots
+-- as they were
 unfoldable pub copyPairs : Table → (ℕ → Capability) → ℕ → List Pair → Table
 copyPairs tb source n [] = tb
 copyPairs tb source n (p ∷ ps) = copyPairs (copyTo tb n (p .to) (source (p .from))) source n ps

@@ -1,3 +1,4 @@
 -- What a copied capability becomes, and where it lands.
 pub mod Copies
 pub mod Helpers
+pub mod Exactness

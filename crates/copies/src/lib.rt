@@ -41,10 +41,13 @@ pub fn fetched(rights: u8, c: Capability) -> Capability
     weaken(c)
 }
 
-// What a slot that held `old` holds after a copy.
+// What a slot that held `old` holds after a copy: an empty copy changes nothing.
 pub fn landed(old: Capability, copy: Capability) -> Capability
     ensures { λ r. ⌜ r ≡ landedOn old copy ⌝ }
 {
+    if (copy.target == 0) & (copy.rights == 0) {
+        return old;
+    }
     copy
 }
 
@@ -80,8 +83,9 @@ pub fn copy_pairs(t: Table, row: Row, n: u8, l: PairList) -> Table
         let p = l.pairs[x];
         let from = p.from as usize;
         let to = p.to as usize;
+        let got = row.cells[from];
         let old = u.slots[m * 8 + to];
-        let new = landed(old, row.cells[from]);
+        let new = landed(old, got);
         u.slots[m * 8 + to] = new;
         x = x + 1;
     }

@@ -1,2 +1,3 @@
--- The laws that the proofs cite.
+-- The laws that the proofs cite, and which slots an effect empties.
 pub mod Several
+pub mod Emptied

@@ -4,33 +4,33 @@
 -- nobody's before. Assumes nothing.
 use mathlib.Core.Path.{_≡_, refl, sym, _∙_, ap}
 use mathlib.Core.Logic.{_≢_}
-use mathlib.Core.Bool.{true, false, not, _||_, true≢false}
+use mathlib.Core.Bool.{true, false, not, true≢false}
 use mathlib.Core.List.{List}
 use Prim.Native.Nat.{ℕ, _≤_, _<_}
 use native.Mathlib.Omega.{arith}
-use lib.Dec.{ltb, eqb}
-use borrow.Author.Tests.{ltb-false, eqb-false, eq-eqb, ne-eqb, not-true}
+use lib.Dec.{eqb}
+use borrow.Author.Tests.{eqb-false, eq-eqb, ne-eqb, not-true}
 use Rattle.mask.specs.Sets.{has, excluding}
-use Rattle.mask.proofs.Tests.{byCases, byEq, clash, and-true, or-none}
+use Rattle.mask.proofs.Tests.{byCases, byEq, clash, and-true}
 use Rattle.mask.proofs.Bits.{has-excluding, has-less}
 use Rattle.table.specs.declared.Record.{Record}
 use Rattle.table.specs.declared.Table.{Table}
-use Rattle.table.specs.Cells.{emptySlot, recordAt, slotAt, statusAt, stockAt, putRecord, putSlot}
+use Rattle.table.specs.Cells.{recordAt, slotAt, statusAt, stockAt, putRecord, putSlot}
 use Rattle.table.proofs.Cells.{Sized, record-put, record-same}
-use Rattle.table.proofs.SoundFacts.{Sound}
+use Rattle.table.proofs.SoundFacts.{bare, bare-slot}
 use Rattle.requests.specs.declared.Pair.{Pair}
-use Rattle.refusals.specs.declared.Reply.the-variants.{Done, NotInStock}
 use Rattle.requests.specs.Asks.{allocate}
 use Rattle.refusals.specs.Replies.{isDone}
-use Rattle.refusals.specs.Refusals.{noObject, noSlot, badList, badField, notInStock, laterRows, refusal}
+use Rattle.refusals.specs.Refusals.{refusal}
 use Rattle.effects.specs.Effects.{withStock, made, fullOver, stockLess, allocated, effect}
 use Rattle.copies.specs.Copies.{copyPairs}
 use Rattle.isolation.specs.Clean.{Clean, adding}
 use Rattle.isolation.specs.Demand.{AgreeOn}
 use Rattle.isolation.proofs.Invariant.{Isolated, nobody-clean, putSlot-isolated, putRecord-isolated, agree-slot-out, agree-record-out, agree-trans, agree-slot, agree-record}
-use Rattle.isolation.proofs.Granted.{passed, past-checks, slot-low, object-low, Ranged, ranged, Within, within}
+use Rattle.copies.proofs.Pairs.{copies-sized}
+use Rattle.steps.proofs.Granted.{ranged, Made, made-facts}
 use Rattle.isolation.proofs.Sides.{fits-live, stock-kept}
-use Rattle.isolation.proofs.Copies.{fits-moved, copies-record, copies-sized, copies-isolated, copies-out, copies-both}
+use Rattle.isolation.proofs.Copies.{fits-moved, copies-record, copies-isolated, copies-out, copies-both}
 
 -- what is left of the stock
 has-left : (n part stock k : ℕ) → k < 64 → has k (stockLess n part stock) ≡ true → (has k stock ≡ true) × (k ≢ n) × (has k part ≡ false)
@@ -39,33 +39,6 @@ has-left n part stock k hk h =
     let p = and-true (has k (excluding n stock)) (not (has k part)) (sym (has-less k (excluding n stock) part hk) ∙ h) in
     let q = and-true (has k stock) (not (eqb k n)) (sym (has-excluding k n stock hk) ∙ p .0) in
     (q .0, eqb-false k n (not-true _ (q .1)), not-true _ (p .1))
-
-record Made (t : Table) (ps : List Pair) (a n k p i : ℕ) : Type 0 where
-  actor : a < 64
-  number : n < 64
-  kind : k ≤ 1
-  slot : i < 8
-  alive : statusAt t a ≡ 1
-  share : Within n p (stockAt t a)
-  pairs : Ranged ps
-
-made-facts : (t : Table) (ps : List Pair) (a n k p i : ℕ) → isDone (refusal t (allocate a n k p i ps)) ≡ true → Made t ps a n k p i
-unfolding badField laterRows
-made-facts t ps a n k p i e =
-    let r = past-checks t (allocate a n k p i ps) e in
-    let f1 = or-none (noObject a || noObject n || ltb 1 k || noSlot i) (badList ps) (r .fields) in
-    let f2 = or-none (noObject a || noObject n || ltb 1 k) (noSlot i) (f1 .0) in
-    let f3 = or-none (noObject a || noObject n) (ltb 1 k) (f2 .0) in
-    let f4 = or-none (noObject a) (noObject n) (f3 .0) in
-    record {
-      actor = object-low a (f4 .0);
-      number = object-low n (f4 .1);
-      kind = ltb-false 1 k (f3 .1);
-      slot = slot-low i (f2 .1);
-      alive = r .alive;
-      share = within n p _ (passed (notInStock n p (stockAt t a)) NotInStock Done refl (r .later) .0);
-      pairs = ranged ps (f1 .1);
-    }
 
 -- one more clean object ---------------------------------------------------------------
 adding-isolated : (t : Table) (C : Clean) (n : ℕ) → Isolated t C → 1 ≤ statusAt t n
@@ -88,13 +61,6 @@ adding-agree C t u n a r s = record {
   records = λ m. byEq m n (λ e h. rw e r) (λ e h. a .records m (rw (ne-eqb m n e) at h));
   slots = λ m j hj. byEq m n (λ e h. rw e (s j hj)) (λ e h. a .slots m j hj (rw (ne-eqb m n e) at h));
 }
-
--- an unborn object's slots are empty
-bare : (t : Table) (n : ℕ) → Sound t → statusAt t n ≡ 0 → (j : ℕ) → j < 8 → slotAt t n j .rights ≡ 0
-bare t n d z j hj = byEq (slotAt t n j .rights) 0 (λ e. e) (λ e. absurd (omega (arith, d .slots n j hj .held (omega arith))))
-
-bare-slot : (t : Table) (n : ℕ) → Sound t → statusAt t n ≡ 0 → (j : ℕ) → j < 8 → slotAt t n j ≡ emptySlot
-bare-slot t n d z j hj = let p = bare t n d z j hj in let q = d .slots n j hj .blank p in λ x. record { target = q x; rights = p x }
 
 module _ (t : Table) (C : Clean) (v : Isolated t C) (a n k p i : ℕ) (ps : List Pair) (e : isDone (refusal t (allocate a n k p i ps)) ≡ true) where
   g : Made t ps a n k p i
@@ -171,15 +137,15 @@ module _ (t : Table) (C : Clean) (v : Isolated t C) (a n k p i : ℕ) (ps : List
   module _ (D : Clean) (x : Isolated t2 D) (side : D n ≡ D a) where
     v3 : Isolated t3 D
     unfolding t3
-    v3 = copies-isolated (g .pairs) t2 D (slotAt t a) n x (g .number) born2 (λ j hj. rw (slot2 a j) at (fits-moved t2 D x a n j hj born2 side))
+    v3 = copies-isolated (ranged ps (g .list)) t2 D (slotAt t a) n x (g .number) born2 (λ j hj. rw (slot2 a j) at (fits-moved t2 D x a n j hj born2 side))
 
     v4 : Isolated (effect t (allocate a n k p i ps)) D
     unfolding t3
     v4 = rw opened (putSlot-isolated t3 D a i _ v3 (g .actor) (g .slot) (record {
       fine = record {
         blank = λ h. absurd (omega arith);
-        held = λ h. ap (λ (r : Record). r .status) (copies-record (g .pairs) t2 (slotAt t a) n a) ∙ alive2;
-        named = λ h. omega (arith, ap (λ (r : Record). r .status) (copies-record (g .pairs) t2 (slotAt t a) n n) ∙ born2);
+        held = λ h. ap (λ (r : Record). r .status) (copies-record (ranged ps (g .list)) t2 (slotAt t a) n a) ∙ alive2;
+        named = λ h. omega (arith, ap (λ (r : Record). r .status) (copies-record (ranged ps (g .list)) t2 (slotAt t a) n n) ∙ born2);
         high = omega arith;
       };
       in-clean = λ c h. side ∙ c;
@@ -192,7 +158,7 @@ module _ (t : Table) (C : Clean) (v : Isolated t C) (a n k p i : ℕ) (ps : List
   pub allocate-out : C a ≡ false → AgreeOn C t (effect t (allocate a n k p i ps))
   unfolding t3 t2 t1
   allocate-out c = rw opened (agree-trans (agree-record-out C t a c _) (agree-trans (agree-record-out C t1 n outsider _)
-      (agree-trans (copies-out (g .pairs) t2 C (slotAt t a) n outsider) (agree-slot-out C t3 a c i _ (g .slot)))))
+      (agree-trans (copies-out (ranged ps (g .list)) t2 C (slotAt t a) n outsider) (agree-slot-out C t3 a c i _ (g .slot)))))
 
   added2 : Isolated t2 (adding n C)
   added2 = adding-isolated t2 C n v2 (omega (arith, born2))
@@ -219,13 +185,13 @@ module _ (C : Clean) (t u : Table) (v : Isolated t C) (w : Isolated u C) (ag : A
 
   agree4 : AgreeOn (adding n C) (t3 t C v a n k p i ps e) (t3 u C w a n k p i ps f)
   unfolding t3
-  agree4 = copies-both (g t C v a n k p i ps e .pairs) _ _ (adding n C) (slotAt t a) (slotAt u a) n
+  agree4 = copies-both (ranged ps (g t C v a n k p i ps e .list)) _ _ (adding n C) (slotAt t a) (slotAt u a) n
       (v2 t C v a n k p i ps e .sound .size) (v2 u C w a n k p i ps f .sound .size)
       agree3 (g t C v a n k p i ps e .number) (rw (eq-eqb n n refl) refl) (λ j hj. ag .slots a j hj c)
 
   sized3 : (x : Table) (vx : Isolated x C) (h : isDone (refusal x (allocate a n k p i ps)) ≡ true) → Sized (t3 x C vx a n k p i ps h)
   unfolding t3
-  sized3 x vx h = copies-sized (g x C vx a n k p i ps h .pairs) _ _ n (v2 x C vx a n k p i ps h .sound .size)
+  sized3 x vx h = copies-sized _ _ n ps (v2 x C vx a n k p i ps h .sound .size)
 
   pub allocate-both : AgreeOn (adding n C) (effect t (allocate a n k p i ps)) (effect u (allocate a n k p i ps))
   allocate-both = rw (opened t C v a n k p i ps e, opened u C w a n k p i ps f)

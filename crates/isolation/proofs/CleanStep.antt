@@ -25,7 +25,8 @@ use Rattle.steps.proofs.Refused.{refused-keeps, done-effects}
 use Rattle.isolation.specs.Clean.{Clean, cleanAfter}
 use Rattle.isolation.specs.Demand.{AgreeOn}
 use Rattle.isolation.proofs.Invariant.{Isolated}
-use Rattle.isolation.proofs.Granted.{slot-low, filled-slot}
+use Rattle.refusals.proofs.Rows.{slot-placed}
+use Rattle.steps.proofs.Granted.{filled-slot}
 use Rattle.isolation.proofs.Slots.{read-isolated, read-both, write-isolated, write-both, fetch-isolated, fetch-both, store-isolated, store-both, revoke-isolated, revoke-both}
 use Rattle.isolation.proofs.Sends.{send-isolated, send-both}
 use Rattle.isolation.proofs.Allocates.{allocate-clean, allocate-both}
@@ -41,7 +42,7 @@ through-by c r s wanted able x y f = byCases (isEmpty c)
 
 -- the fields come first, the slot second
 slot-of : (a s : ℕ) → (noObject a || noSlot s) ≡ false → s < 8
-slot-of a s e = slot-low s (or-none (noObject a) (noSlot s) e .1)
+slot-of a s e = slot-placed s (or-none (noObject a) (noSlot s) e .1)
 
 module _ (C : Clean) (t u : Table) (v : Isolated t C) (w : Isolated u C) (ag : AgreeOn C t u) where
   through-same : (a s wanted : ℕ) (need : Need) (x y : Reply) → C a ≡ true → s < 8 → (1 ≤ slotAt t a s .rights → x ≡ y) → throughSlot t a s wanted need x ≡ throughSlot u a s wanted need y

@@ -15,10 +15,11 @@ use Rattle.table.proofs.Cells.{Sized, sized-putSlot, slot-same, slot-beside}
 use Rattle.requests.specs.declared.Pair.{Pair}
 use Rattle.effects.specs.Effects.{answerSlot, clearSlots}
 use Rattle.copies.specs.Copies.{landed, copyTo, copyPairs}
+use Rattle.copies.proofs.Landing.{landed-elim}
 use Rattle.isolation.specs.Clean.{Clean}
 use Rattle.isolation.specs.Demand.{AgreeOn}
 use Rattle.isolation.proofs.Invariant.{Isolated, SlotFits, putSlot-isolated, agree-slot-out, agree-refl, agree-trans, agree-slot}
-use Rattle.isolation.proofs.Granted.{Ranged, none, more}
+use Rattle.steps.proofs.Granted.{Ranged, none, more}
 
 -- slots that fit -----------------------------------------------------------------
 pub fits-empty : (t : Table) (C : Clean) (n : ℕ) → SlotFits t C n emptySlot
@@ -36,17 +37,12 @@ fits-moved t C v x y i hi l side = let f = v .sound .slots x i hi in record {
   out-clean = λ c. v .outside x i hi (sym side ∙ c);
 }
 
--- the law of landing: what a slot then holds is the copy, or what it held
-pub landed-elim : (P : Capability → Type 0) (old copy : Capability) → P old → P copy → P (landed old copy)
-unfolding landed
-landed-elim P old copy p q = q
-
 landed-same : (a b c d : Capability) → a ≡ b → c ≡ d → landed a c ≡ landed b d
 landed-same a b c d p q = ap₂ landed p q
 
 -- one copy ------------------------------------------------------------------------
 pub copy-isolated : (t : Table) (C : Clean) (n j : ℕ) (c : Capability) → Isolated t C → n < 64 → j < 8 → statusAt t n ≡ 1 → SlotFits t C n c → Isolated (copyTo t n j c) C
-copy-isolated t C n j c v hn hj l f = putSlot-isolated t C n j _ v hn hj (landed-elim (SlotFits t C n) _ c (fits-moved t C v n n j hj l refl) f)
+copy-isolated t C n j c v hn hj l f = putSlot-isolated t C n j _ v hn hj (landed-elim (SlotFits t C n) _ c (fits-moved t C v n n j hj l refl) (λ e. f))
 
 pub copy-out : (t : Table) (C : Clean) (n j : ℕ) (c : Capability) → C n ≡ false → j < 8 → AgreeOn C t (copyTo t n j c)
 copy-out t C n j c out hj = agree-slot-out C t n out j _ hj
@@ -60,11 +56,6 @@ pub copies-record : {ps : List Pair} → Ranged ps → (t : Table) (src : ℕ �
 unfolding copyPairs
 copies-record none t src y m = refl
 copies-record (more {p = p} hf ht r) t src y m = copies-record r (copyTo t y (p .to) (src (p .from))) src y m
-
-pub copies-sized : {ps : List Pair} → Ranged ps → (t : Table) (src : ℕ → Capability) (y : ℕ) → Sized t → Sized (copyPairs t src y ps)
-unfolding copyPairs
-copies-sized none t src y z = z
-copies-sized (more hf ht r) t src y z = copies-sized r _ src y (sized-putSlot t y _ _ z)
 
 fits-kept : (t : Table) (C : Clean) (n j : ℕ) (x : Capability) (y : ℕ) (c : Capability) → SlotFits t C y c → SlotFits (putSlot t n j x) C y c
 fits-kept t C n j x y c f = record { fine = f .fine; in-clean = f .in-clean; out-clean = f .out-clean }

@@ -5,8 +5,6 @@ use mathlib.Core.Logic.{_≢_}
 use mathlib.Core.Bool.{true, false}
 use Prim.Native.Nat.{ℕ, _<_}
 use native.Mathlib.Omega.{arith}
-use lib.Dec.{eqb}
-use borrow.Author.Tests.{eqb-false}
 use Rattle.mask.specs.Sets.{has, unionOf}
 use Rattle.mask.proofs.Tests.{byCases, clash, or-cases}
 use Rattle.mask.proofs.Bits.{has-zero, has-union}
@@ -15,32 +13,28 @@ use Rattle.table.specs.declared.Table.{Table}
 use Rattle.table.specs.Cells.{recordAt, slotAt, statusAt, stockAt, putRecord}
 use Rattle.table.proofs.Cells.{record-put, sized-putRecord}
 use Rattle.refusals.specs.declared.Need.the-variants.{Write}
-use Rattle.refusals.specs.declared.Reply.the-variants.{Done, ActorItself}
 use Rattle.requests.specs.Asks.{destroy}
 use Rattle.refusals.specs.Replies.{isDone}
-use Rattle.refusals.specs.Refusals.{refuse, badField, laterRows, refusal, targetOf}
+use Rattle.refusals.specs.Refusals.{badField, laterRows, refusal, targetOf}
 use Rattle.effects.specs.Effects.{clearSlots, withStock, died, destroyed, effect}
 use Rattle.isolation.specs.Clean.{Clean}
 use Rattle.isolation.specs.Demand.{AgreeOn}
 use Rattle.isolation.proofs.Invariant.{Isolated, putRecord-isolated, agree-record-out, agree-trans, agree-record}
-use Rattle.isolation.proofs.Granted.{passed, past-checks, Granted, granted}
+use Rattle.steps.proofs.Granted.{past-checks, Granted, granted, not-itself}
 use Rattle.isolation.proofs.Sides.{clean-target, dirty-target, weak-no-write, fits-live, stock-kept}
 use Rattle.isolation.proofs.Copies.{clear-record, clear-isolated, clear-sized, clear-bare, clear-out, clear-both}
 
 module _ (t : Table) (C : Clean) (v : Isolated t C) (a s : ℕ) (e : isDone (refusal t (destroy a s)) ≡ true) where
-  both-facts : (Granted t a s Write) × (isDone (refuse (eqb (targetOf t a s) a) ActorItself Done) ≡ true)
-  unfolding badField laterRows
-  both-facts = let r = past-checks t (destroy a s) e in granted t a s Write _ (v .sound) (r .fields) (r .alive) (r .later)
-
   g : Granted t a s Write
-  g = both-facts .0
+  unfolding badField laterRows
+  g = let r = past-checks t (destroy a s) e in granted t a s Write _ (v .sound) (r .fields) (r .alive) (r .later) .0
 
   y : ℕ
   y = targetOf t a s
 
   y≢a : y ≢ a
   unfolding y
-  y≢a = eqb-false (targetOf t a s) a (passed (eqb (targetOf t a s) a) ActorItself Done refl (both-facts .1) .0)
+  y≢a = not-itself t a s e
 
   -- the slots
   t1 : Table

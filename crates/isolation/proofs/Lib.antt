@@ -1,5 +1,4 @@
 pub mod Invariant
-pub mod Granted
 pub mod Copies
 pub mod Sides
 pub mod Slots
@@ -15,3 +14,4 @@ pub mod TwoRuns
 pub mod Nonsense
 pub mod Witness
 pub mod Unlisted
+pub mod EmptyCopies

@@ -18,7 +18,7 @@ use Rattle.steps.proofs.Refused.{refused-keeps, done-effects}
 use Rattle.isolation.specs.Clean.{Clean}
 use Rattle.isolation.specs.Demand.{AgreeOn}
 use Rattle.isolation.proofs.Invariant.{Isolated, agree-refl}
-use Rattle.isolation.proofs.Granted.{past-checks}
+use Rattle.steps.proofs.Granted.{past-checks}
 use Rattle.isolation.proofs.Slots.{read-isolated, read-out, write-isolated, write-out, fetch-isolated, fetch-out, store-isolated, store-out, revoke-isolated, revoke-out}
 use Rattle.isolation.proofs.Sends.{send-isolated, send-out}
 use Rattle.isolation.proofs.Allocates.{allocate-isolated, allocate-out}

@@ -5,8 +5,7 @@ use mathlib.Core.Bool.{true, false, _||_}
 use mathlib.Core.List.{List}
 use Prim.Native.Nat.{ℕ}
 use native.Mathlib.Omega.{arith}
-use lib.Dec.{ltb}
-use Rattle.mask.proofs.Tests.{clash, or-none}
+use Rattle.mask.proofs.Tests.{clash}
 use Rattle.table.specs.declared.Record.{Record}
 use Rattle.table.specs.declared.Table.{Table}
 use Rattle.table.specs.Cells.{recordAt, slotAt, statusAt, putRecord}
@@ -15,23 +14,20 @@ use Rattle.requests.specs.declared.Pair.{Pair}
 use Rattle.refusals.specs.declared.Need.the-variants.{Send}
 use Rattle.requests.specs.Asks.{send}
 use Rattle.refusals.specs.Replies.{isDone}
-use Rattle.refusals.specs.Refusals.{noObject, noSlot, badList, badField, laterRows, refusal, targetOf}
+use Rattle.refusals.specs.Refusals.{noObject, noSlot, laterRows, refusal, targetOf}
 use Rattle.effects.specs.Effects.{withWord, sent, effect}
 use Rattle.copies.specs.Copies.{copyPairs}
 use Rattle.isolation.specs.Clean.{Clean}
 use Rattle.isolation.specs.Demand.{AgreeOn}
 use Rattle.isolation.proofs.Invariant.{Isolated, putRecord-isolated, agree-record-out, agree-trans, agree-record}
-use Rattle.isolation.proofs.Granted.{past-checks, Granted, granted, Ranged, ranged}
+use Rattle.copies.proofs.Pairs.{copies-sized}
+use Rattle.steps.proofs.Granted.{past-checks, Granted, granted, Ranged, ranged, send-list}
 use Rattle.isolation.proofs.Sides.{clean-target, same-side, weak-no-send, fits-word}
-use Rattle.isolation.proofs.Copies.{fits-moved, copies-record, copies-sized, copies-isolated, copies-out, copies-both, answer-isolated, answer-out, answer-both}
+use Rattle.isolation.proofs.Copies.{fits-moved, copies-record, copies-isolated, copies-out, copies-both, answer-isolated, answer-out, answer-both}
 
 module _ (t : Table) (C : Clean) (v : Isolated t C) (a s w : ℕ) (ps : List Pair) (y : ℕ) (e : isDone (refusal t (send a s w ps y)) ≡ true) where
   send-fields : ((noObject a || noSlot s) ≡ false) × Ranged ps
-  unfolding badField
-  send-fields =
-      let p = or-none (noObject a || noSlot s || badList ps) (ltb 8 y) (past-checks t (send a s w ps y) e .fields) in
-      let q = or-none (noObject a || noSlot s) (badList ps) (p .0) in
-      (q .0, ranged ps (q .1))
+  send-fields = let q = send-list a s w ps y (past-checks t (send a s w ps y) e .fields) in (q .0, ranged ps (q .1))
 
   send-granted : Granted t a s Send
   unfolding laterRows
@@ -87,5 +83,5 @@ module _ (C : Clean) (t u : Table) (v : Isolated t C) (w : Isolated u C) (ag : A
       let q = ag .records _ o in
       let zt = sized-putRecord t _ _ (v .sound .size) in
       let zu = sized-putRecord u _ _ (w .sound .size) in
-      rw (← (ag .slots a s (g .slot) c), targetOf) (answer-both _ _ C _ y a (copies-sized r _ _ _ zt) (copies-sized r _ _ _ zu)
+      rw (← (ag .slots a s (g .slot) c), targetOf) (answer-both _ _ C _ y a (copies-sized _ _ _ ps zt) (copies-sized _ _ _ ps zu)
       (copies-both r _ _ C _ _ _ zt zu (agree-record C t u (v .sound .size) (w .sound .size) ag _ (g .target) _ _ (cc q)) (g .target) o (λ i hi. ag .slots a i hi c)) (g .target))

@@ -18,7 +18,7 @@ use Rattle.effects.specs.Effects.{withWord}
 use Rattle.copies.specs.Copies.{weaken, fetched}
 use Rattle.isolation.specs.Clean.{Clean}
 use Rattle.isolation.proofs.Invariant.{wkAlone, Isolated, RecordFits}
-use Rattle.isolation.proofs.Granted.{Granted}
+use Rattle.steps.proofs.Granted.{Granted}
 
 -- wk alone reads, and neither writes nor sends
 pub weak-no-write : needMet Write wkAlone ≡ false

@@ -18,7 +18,8 @@ use Rattle.copies.specs.Copies.{fetched}
 use Rattle.isolation.specs.Clean.{Clean}
 use Rattle.isolation.specs.Demand.{AgreeOn}
 use Rattle.isolation.proofs.Invariant.{Isolated, SlotFits, putSlot-isolated, putRecord-isolated, agree-record-out, agree-slot-out, agree-record, agree-slot}
-use Rattle.isolation.proofs.Granted.{past-checks, Granted, granted, slot-low}
+use Rattle.refusals.proofs.Rows.{slot-placed}
+use Rattle.steps.proofs.Granted.{past-checks, Granted, granted}
 use Rattle.isolation.proofs.Sides.{clean-target, dirty-target, same-side, weak-no-write, fetched-elim, fits-word}
 use Rattle.isolation.proofs.Copies.{fits-empty, fits-moved, copy-isolated, copy-out, copy-both}
 
@@ -27,7 +28,7 @@ two-slots : (a s i j : ℕ) → (noObject a || noSlot s || noSlot i || noSlot j)
 two-slots a s i j e =
     let p = or-none (noObject a || noSlot s || noSlot i) (noSlot j) e in
     let q = or-none (noObject a || noSlot s) (noSlot i) (p .0) in
-    (q .0, slot-low i (q .1), slot-low j (p .1))
+    (q .0, slot-placed i (q .1), slot-placed j (p .1))
 
 -- read ----------------------------------------------------------------------------
 module _ (t : Table) (C : Clean) (v : Isolated t C) (a s : ℕ) (e : isDone (refusal t (read a s)) ≡ true) where
@@ -121,7 +122,7 @@ module _ (t : Table) (C : Clean) (v : Isolated t C) (a s i j : ℕ) (e : isDone 
 module _ (t : Table) (C : Clean) (v : Isolated t C) (a s j : ℕ) (e : isDone (refusal t (revoke a s j)) ≡ true) where
   revoke-fields : ((noObject a || noSlot s) ≡ false) × (j < 8)
   unfolding badField
-  revoke-fields = let p = or-none (noObject a || noSlot s) (noSlot j) (past-checks t (revoke a s j) e .fields) in (p .0, slot-low j (p .1))
+  revoke-fields = let p = or-none (noObject a || noSlot s) (noSlot j) (past-checks t (revoke a s j) e .fields) in (p .0, slot-placed j (p .1))
 
   revoke-granted : Granted t a s Write
   unfolding laterRows

@@ -75,13 +75,13 @@ alive kind word stock = record { status = 1; kind = kind; word = word; stock = s
 unfoldable pub over : ℕ → ℕ → Capability
 over target rights = record { target = target; rights = rights }
 
--- 0 has 8 in stock and everything over 1; the member 2 may write 3 and read 1 weakly
+-- 0 has 8 in stock and everything over 1; 1 has wr over itself; the member 2 may write 3 and read 1 weakly
 unfoldable pub base : Table
 unfolding alive over
-base = putSlot (putSlot (putSlot (record {
+base = putSlot (putSlot (putSlot (putSlot (record {
   records = (alive 1 0 (2 ^ 8) ∷ alive 0 6 0 ∷ alive 1 5 0 ∷ alive 0 0 0 ∷ []) ++ replicate 60 unbornRecord;
   slots = replicate 512 emptySlot;
-}) 0 0 (over 1 15)) 2 0 (over 3 2)) 2 1 (over 1 4)
+}) 0 0 (over 1 15)) 1 3 (over 1 2)) 2 0 (over 3 2)) 2 1 (over 1 4)
 
 -- another word and another slot of the member
 unfoldable pub other : Table
@@ -131,11 +131,11 @@ accepted-other : verdictNumber (verdictOf other members list) ≡ 0
 unfolding base other members list alive over bits allBelow anyBelow stockSound soundAt sound takesPart holdsIn listed badMembers badEntry badList allListed passes badHeld memberHeld verdictOf
 accepted-other = refl
 
-both : BothAccepted base other members list
+pub both : BothAccepted base other members list
 both = record { left = base-value; right = other-value; accepted-left = accepted-base; accepted-right = accepted-other; agree = tables-agree }
 
 -- what is computed -----------------------------------------------------------------------
-abbrev C : Clean
+abbrev pub C : Clean
 C = cleanAtStart base members list
 
 abbrev pub D : Clean

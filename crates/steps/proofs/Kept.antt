@@ -17,7 +17,8 @@ use Rattle.requests.specs.Asks.{Ask, read, write, fetch, store, revoke, send, a
 use Rattle.refusals.specs.Replies.{isDone}
 use Rattle.refusals.specs.Refusals.{needMet, targetOf, rightsOf, refusal}
 use Rattle.effects.specs.Effects.{answerSlot, clearSlots, withWord, withStock, made, died, fullOver, stockLess, sent, allocated, destroyed, effect}
-use Rattle.copies.specs.Copies.{weaken, fetched, landed, copyTo, copyPairs}
+use Rattle.copies.specs.Copies.{weaken, fetched, copyTo, copyPairs}
+use Rattle.copies.proofs.Landing.{landed-elim}
 use Rattle.steps.specs.Steps.{after, runTable}
 use Rattle.steps.proofs.Refused.{refused-keeps, done-effects}
 
@@ -51,8 +52,7 @@ fetched-value rights c h g = byCases (hasRd rights)
 
 -- puts one after the other -----------------------------------------------------------------------
 copy-keeps : (t : Table) (n j : ℕ) (c : Capability) → IsTable t → SlotValue c → IsTable (copyTo t n j c)
-unfolding landed
-copy-keeps t n j c z v = table-putSlot t n j c z v
+copy-keeps t n j c z v = table-putSlot t n j _ z (landed-elim SlotValue (slotAt t n j) c (slot-of t z (n * 8 + j)) (λ e. v))
 
 pairs-keep : (t : Table) (source : ℕ → Capability) (n : ℕ) (ps : List Pair) → IsTable t → ((j : ℕ) → SlotValue (source j))
     → IsTable (copyPairs t source n ps)

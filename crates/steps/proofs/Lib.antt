@@ -1,5 +1,9 @@
--- The mathematics that the proofs of this crate share, each module over those above it.
+-- The mathematics that the proofs of this crate share, each module over those above it; what is known of a request that was answered
+-- 0; which requests empty a slot; and what is copied where.
 pub mod Refused
 pub mod Ways
 pub mod Uses
 pub mod Kept
+pub mod Granted
+pub mod Emptying
+pub mod Copied

@@ -66,7 +66,7 @@ pub fn write(t: Table, actor: u8, s: u8, word: u32) -> Stepped
     }
 }
 
-// The target's slot i to the actor's slot j, weakened if rd is absent.
+// The target's slot i to the actor's slot j, weakened if rd is absent. A copy that comes out empty changes nothing.
 pub fn fetch(t: Table, actor: u8, s: u8, i: u8, j: u8) -> Stepped
     requires { ⌜ sound t ≡ true ⌝ }
     ensures { λ r. ⌜ r ≡ stepOf t (fetchAsk actor s i j) ⌝ }
@@ -83,7 +83,8 @@ pub fn fetch(t: Table, actor: u8, s: u8, i: u8, j: u8) -> Stepped
     let from = v.target as usize * 8 + i as usize;
     let to = actor as usize * 8 + j as usize;
     let got = fetched(v.rights, u.slots[from]);
-    let new = landed(u.slots[to], got);
+    let old = u.slots[to];
+    let new = landed(old, got);
     u.slots[to] = new;
     Stepped {
         reply: reply,
@@ -91,7 +92,7 @@ pub fn fetch(t: Table, actor: u8, s: u8, i: u8, j: u8) -> Stepped
     }
 }
 
-// The actor's slot i to the target's slot j.
+// The actor's slot i to the target's slot j. An empty one changes nothing.
 pub fn store(t: Table, actor: u8, s: u8, i: u8, j: u8) -> Stepped
     requires { ⌜ sound t ≡ true ⌝ }
     ensures { λ r. ⌜ r ≡ stepOf t (storeAsk actor s i j) ⌝ }
@@ -107,7 +108,9 @@ pub fn store(t: Table, actor: u8, s: u8, i: u8, j: u8) -> Stepped
     }
     let from = actor as usize * 8 + i as usize;
     let to = v.target as usize * 8 + j as usize;
-    let new = landed(u.slots[to], u.slots[from]);
+    let given = u.slots[from];
+    let old = u.slots[to];
+    let new = landed(old, given);
     u.slots[to] = new;
     Stepped {
         reply: reply,

@@ -10,6 +10,7 @@ use Rattle.mask.proofs.Tests.{byEq}
 use Rattle.table.specs.declared.Capability.{Capability}
 use Rattle.table.specs.declared.Record.{Record}
 use Rattle.table.specs.declared.Table.{Table}
+use Rattle.table.proofs.Lists.{put-any}
 use Rattle.table.specs.Cells.{IsTable, recordAt, slotAt, putRecord, putSlot, emptySlot, unbornRecord}
 
 -- two tables are the same if their lists are
@@ -59,6 +60,11 @@ pub record-put : (P : Record → Type 0) (t : Table) (n m : ℕ) (r : Record) �
     → (m ≡ n → P r) → (m ≢ n → P (recordAt t m)) → P (recordAt (putRecord t n r) m)
 record-put P t n m r z h new old =
     byEq m n (λ e. rw (e, record-same t n r z h) (new e)) (λ e. rw (record-other t n m r e) (old e))
+
+-- the same of slots by their places in the list, however long it is
+pub slot-put-at : (P : Capability → Type 0) (t : Table) (n j m k : ℕ) (c : Capability) → (m * 8 + k ≡ n * 8 + j → P c) → P (slotAt t m k)
+    → P (slotAt (putSlot t n j c) m k)
+slot-put-at P t n j m k c new old = put-any P (t .slots) (n * 8 + j) (m * 8 + k) c emptySlot new old
 
 -- past the end nothing is born and no slot is filled
 pub record-high : (t : Table) (n : ℕ) → Sized t → 64 ≤ n → recordAt t n ≡ unbornRecord

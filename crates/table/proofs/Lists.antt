@@ -1,5 +1,5 @@
--- A tabulated list: its length, its elements, one more at its end, and that a list is the one of its elements. A list that is
--- padded to a length: one more element in the first place that was padding. Assumes nothing.
+-- A tabulated list: its length, its elements, one more at its end, and that a list is the one of its elements. What a list has after
+-- a put. A list that is padded to a length: one more element in the first place that was padding. Assumes nothing.
 use mathlib.Core.Path.{_≡_, refl, sym, _∙_, ap}
 use mathlib.Core.List.{List, [], _∷_, _++_}
 use Prim.Native.Nat.{ℕ, zero, suc, _+_, _≤_, _<_}
@@ -29,6 +29,22 @@ tabulate-snoc (suc n) f = ap (λ l. f 0 ∷ l) (tabulate-snoc n (λ k. f (suc k)
 pub as-tabulate : {A : Type 0} (n : ℕ) (f : ℕ → A) (d : A) (l : List A) → length l ≡ n → ((k : ℕ) → k < n → getD l k d ≡ f k) → l ≡ tabulate n f
 as-tabulate n f d l e h = ext-getD d l (tabulate n f) (e ∙ sym (length-tabulate n f))
     (λ i g. let b : i < n = omega arith in h i b ∙ sym (getD-tabulate n f i d b))
+
+-- a fact of what a list has after a put, however long it is --------------------------------
+module _ {A : Type 0} (P : A → Type 0) where
+  -- at any place: of what was put, if that is the place, and of what was there
+  pub put-any : (l : List A) (i j : ℕ) (a d : A) → (j ≡ i → P a) → P (getD l j d) → P (getD (set l i a) j d)
+  put-any [] i j a d new old = old
+  put-any (x ∷ xs) zero zero a d new old = new refl
+  put-any (x ∷ xs) zero (suc j) a d new old = old
+  put-any (x ∷ xs) (suc i) zero a d new old = old
+  put-any (x ∷ xs) (suc i) (suc j) a d new old = put-any xs i j a d (λ e. new (ap suc e)) old
+
+  -- at its own place: of what was put, and of the default past the end
+  pub put-there : (l : List A) (i : ℕ) (a d : A) → P a → P d → P (getD (set l i a) i d)
+  put-there [] i a d new end = end
+  put-there (x ∷ xs) zero a d new end = new
+  put-there (x ∷ xs) (suc i) a d new end = put-there xs i a d new end
 
 -- padded lists ---------------------------------------------------------------------------
 module _ {A : Type 0} where

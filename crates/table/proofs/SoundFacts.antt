@@ -203,3 +203,10 @@ module _ (t : Table) (z : Sized t) (e : sound t ≡ true) where
     apart = λ n m k hk h g. byEq m n (λ q. sym q) (λ q.
         clash g (stock-fine t n k (all-at 64 _ (each n (low-stock n k h) .stock) k hk) h .1 m (low-stock m k g) q));
   }
+
+-- an unborn object's slots are empty
+pub bare : (t : Table) (n : ℕ) → Sound t → statusAt t n ≡ 0 → (j : ℕ) → j < 8 → slotAt t n j .rights ≡ 0
+bare t n d z j hj = byEq (slotAt t n j .rights) 0 (λ e. e) (λ e. absurd (omega (arith, d .slots n j hj .held (omega arith))))
+
+pub bare-slot : (t : Table) (n : ℕ) → Sound t → statusAt t n ≡ 0 → (j : ℕ) → j < 8 → slotAt t n j ≡ emptySlot
+bare-slot t n d z j hj = let p = bare t n d z j hj in let q = d .slots n j hj .blank p in λ x. record { target = q x; rights = p x }

@@ -1,6 +1,6 @@
 //! The inputs that stack and instructions are measured on: for each call some that are done and some
 //! that are refused, on table K, on the filled table, and on long chains where reaching takes longest; tests
-//! with wk alone in many slots too.
+//! with wk alone in many slots too, and requests with empty copies.
 
 use yavrinks_model::access::potential_access;
 use yavrinks_model::chain::chain;
@@ -8,21 +8,24 @@ use yavrinks_model::confine::confine;
 use yavrinks_model::confinement::{confinement_test, Entry};
 use yavrinks_model::image::{self, IMAGE_LENGTH};
 use yavrinks_model::set;
-use yavrinks_model::step::step;
+use yavrinks_model::step::{step, Request};
 use yavrinks_model::table::Table;
 use yavrinks_model::take_grant;
 use yavrinks_model::wire::encode;
 use yavrinks_tools::generate::{encode_input, printed_number, ConfinementCase, ShownCase};
 
 use crate::calls::{Call, Sample};
-use crate::samples::{chain_table, farthest, imports, list_bytes, material_test, mended, own_test};
-use crate::samples::{places, requests, unsound_at_the_end, Import, Place};
+use crate::samples::{chain_table, farthest, imports, keeping, list_bytes, material_test, mended};
+use crate::samples::{own_test, places, requests, unsound_at_the_end, Import, Keeping, Place};
 
 /// The inputs of a call.
 pub fn samples(call: Call) -> Vec<Sample> {
     let places = places();
     match call {
-        Call::Step | Call::Stepped => places.iter().flat_map(steps).collect(),
+        Call::Step | Call::Stepped => {
+            let keeping = keeping().into_iter().map(kept);
+            places.iter().flat_map(steps).chain(keeping).collect()
+        }
         Call::Sound => tables().into_iter().map(sound).collect(),
         Call::Access => tables().into_iter().map(access).collect(),
         Call::Test => tests().into_iter().map(test).collect(),
@@ -43,13 +46,9 @@ fn steps(place: &Place) -> Vec<Sample> {
     let asked = requests(&place.table);
     let unsound = unsound_at_the_end(&place.table);
     let first = asked.first().cloned();
-    let of = |table: &Table, name: &str, request| Sample {
-        name: format!("{name}, {}", place.name),
-        number: step(table, &request).0,
-        table: table.clone(),
-        members: 0,
-        bytes: encode(&request),
-        object: 0,
+    let of = |table: &Table, name: &str, request| {
+        let name = format!("{name}, {}", place.name);
+        asked_of(name, table.clone(), &request)
     };
     let unsound = first.map(|(_, request)| of(&unsound, "unsound table", request));
     let asked = asked.into_iter();
@@ -57,6 +56,21 @@ fn steps(place: &Place) -> Vec<Sample> {
         .map(|(name, request)| of(&place.table, &name, request))
         .chain(unsound)
         .collect()
+}
+
+fn kept(case: Keeping) -> Sample {
+    asked_of(case.name.to_string(), case.table, &case.request)
+}
+
+fn asked_of(name: String, table: Table, request: &Request) -> Sample {
+    Sample {
+        name,
+        number: step(&table, request).0,
+        table,
+        members: 0,
+        bytes: encode(request),
+        object: 0,
+    }
 }
 
 /// The tables of the calls that take a table alone.

@@ -3,8 +3,8 @@
 use yavrinks_model::confinement::Entry;
 use yavrinks_model::links::Links;
 use yavrinks_model::set;
-use yavrinks_model::step::{step_in_place, Code, Fields, Request};
-use yavrinks_model::table::{Capability, Record, Table, RD, WK, WR};
+use yavrinks_model::step::{step_in_place, Code, Fields, Request, NO_REPLY};
+use yavrinks_model::table::{Capability, Record, Table, RD, SLOTS, TX, WK, WR};
 use yavrinks_model::take_grant::{READ, STORE};
 use yavrinks_model::wire::decode_list;
 use yavrinks_tools::generate::{full_import, numbers_where, sound_table, ConfinementCase, Shape};
@@ -190,6 +190,57 @@ pub fn mended(mut bytes: Vec<u8>) -> Vec<u8> {
         field.copy_from_slice(&length);
     }
     bytes
+}
+
+/// A request that leaves the slots that it copies to, and the table to measure it on.
+#[derive(Clone, Debug)]
+pub struct Keeping {
+    pub name: &'static str,
+    pub table: Table,
+    pub request: Request,
+}
+
+/// Two requests that are done and leave every slot, since their copies come out empty: a send of four empty slots
+/// onto filled ones, and a fetch that is weakened to nothing, onto a filled slot too. But for those four all slots
+/// of all 64 objects are filled.
+pub fn keeping() -> [Keeping; 2] {
+    let mut table = Table::unborn();
+    for (n, record) in table.records.iter_mut().enumerate() {
+        record.status = 1;
+        record.kind = 1;
+        record.slots = [Capability::new(n as u8, WR | TX); SLOTS];
+    }
+    let (actor, target) = (0, 63);
+    table.record_mut(actor).slots[0] = Capability::new(target, WK | TX);
+    let fetch = Request::Fetch {
+        actor,
+        t: 0,
+        i: 7,
+        j: 7,
+    };
+    let mut sender = table.clone();
+    for j in 4..SLOTS {
+        sender.record_mut(actor).slots[j] = Capability::EMPTY;
+    }
+    let send = Request::Send {
+        actor,
+        t: 0,
+        word: 7,
+        list: vec![(4, 1), (5, 2), (6, 3), (7, 4)],
+        reply: NO_REPLY,
+    };
+    [
+        Keeping {
+            name: "send of four empty slots",
+            table: sender,
+            request: send,
+        },
+        Keeping {
+            name: "fetch weakened to nothing",
+            table,
+            request: fetch,
+        },
+    ]
 }
 
 /// Each of the eight requests, done, then one refused by 6 and a nonsense code.

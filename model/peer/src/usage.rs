@@ -10,15 +10,17 @@ usage: yavrinks-peer COMMAND
       Puts the same questions to the archive and to the model and compares every answer: REQUESTS
       requests in both forms of the step, with the other calls at times, then INPUTS images, as many
       imports of take-and-grant tables and as many inputs of the program confine. Prints how often
-      each number was answered, and how often where a member holds wk alone that the list lacks. At
+      each number was answered, how often a request that was done had an empty copy and what that
+      met, and how often a test was answered where a member holds wk alone that the list lacks. At
       the first difference it prints the case and both answers. The same SEED asks the same on every
       machine. Without numbers: seed 1, 10000000 requests, 1000000 inputs.
 
   bench
       Times each call of the archive and of the model in turn, on table K and on a table with every
-      slot filled, the test where members hold 64 wk alone and the list is empty, the longest import
-      and a small one, the chain against the test that it begins with, and the step on a lent table
-      against one soundness scan in C. Run it on a machine that does nothing else.
+      slot filled, a send and a fetch whose copies come out empty, the test where members hold 64 wk
+      alone and the list is empty, the longest import and a small one, the chain against the test that
+      it begins with, and the step on a lent table against one soundness scan in C. Run it on a machine
+      that does nothing else.
 
   stack
       Measures how many bytes of stack each call of the archive takes (x86-64 alone). The header

@@ -11,8 +11,9 @@ use yavrinks_model::take_grant;
 use yavrinks_model::wire::decode_list;
 use yavrinks_peer::calls::{answer, Call};
 use yavrinks_peer::cases::samples;
-use yavrinks_peer::samples::{farthest, held_list, imports, material_test, own_test, places};
-use yavrinks_peer::samples::{requests, row};
+use yavrinks_peer::samples::{farthest, held_list, imports, keeping, material_test, own_test};
+use yavrinks_peer::samples::{places, requests, row};
+use yavrinks_tools::empty_kinds::{empty_kinds, EmptyKind};
 use yavrinks_tools::generate::{CONFINEMENT_NUMBERS, IMPORT_NUMBERS, SHOWN_NUMBERS};
 
 #[test]
@@ -52,6 +53,20 @@ fn the_test_with_64_wk_unlisted_is_accepted_with_an_empty_bound() {
     assert_eq!(targets, !case.members);
     let found = confinement_test(&case.table, case.members, &case.list);
     assert_eq!(found, (0, 0));
+}
+
+/// The send copies four empty slots, the fetch one with rights 10 through wk and tx; each goes to a filled slot.
+#[test]
+fn the_empty_copies_that_are_measured_keep_every_slot() {
+    let kinds = [EmptyKind::Send, EmptyKind::WeakenedWrTx];
+    for (case, kind) in keeping().into_iter().zip(kinds) {
+        let (reply, after) = step(&case.table, &case.request);
+        assert_eq!(reply, 0, "{}", case.name);
+        for n in 0..64 {
+            assert_eq!(after.record(n).slots, case.table.record(n).slots);
+        }
+        assert_eq!(empty_kinds(&case.table, &case.request), [kind]);
+    }
 }
 
 /// No object has a longer chain than the one that is measured, and none below it as long a one.

@@ -6,6 +6,7 @@ mod json;
 pub use json::Json;
 use yavrinks_model::confinement::Entry;
 use yavrinks_model::set;
+use yavrinks_model::step::{Code, Fields, Request};
 use yavrinks_model::table::{Capability, Record, Table};
 
 /// The values of a text that holds one JSON value a line.
@@ -109,6 +110,49 @@ impl TestLine {
                 byte(field(value, "number")),
                 number_set(field(value, "bound")),
             ),
+        }
+    }
+}
+
+/// A request has the fields that its code has, and no others.
+fn request(value: &Json) -> Request {
+    let (code, actor) = (byte(field(value, "code")), byte(field(value, "actor")));
+    let word = value.get("word").map_or(0, number);
+    let Some(known) = Code::of(code) else {
+        return Request::Unknown { code, actor };
+    };
+    known.request(Fields {
+        actor,
+        t: byte_or_zero(value, "t"),
+        i: byte_or_zero(value, "i"),
+        j: byte_or_zero(value, "j"),
+        n: byte_or_zero(value, "n"),
+        kind: byte_or_zero(value, "kind"),
+        part: value.get("part").map_or(0, number_set),
+        word: u32::try_from(word).expect("word"),
+        list: value.get("list").map_or(Vec::new(), pairs),
+        reply: byte_or_zero(value, "reply"),
+    })
+}
+
+/// A line of a file of steps: what is asked of which table, the reply, and the table after it.
+pub struct StepLine {
+    pub table: Table,
+    pub request: Request,
+    pub answer: (u8, Table),
+}
+
+impl StepLine {
+    pub fn of(value: &Json) -> StepLine {
+        let before = table(field(value, "table"));
+        let after = match field(value, "after") {
+            Json::Null => before.clone(),
+            changed => table(changed),
+        };
+        StepLine {
+            table: before,
+            request: request(field(value, "request")),
+            answer: (byte(field(value, "reply")), after),
         }
     }
 }

@@ -4,7 +4,9 @@
 #![forbid(unsafe_code)]
 
 pub mod built_program;
+pub mod copies;
 pub mod definitions;
+pub mod empty_kinds;
 pub mod generate;
 pub mod progress;
 pub mod rng;

@@ -6,6 +6,7 @@ use std::process::ExitCode;
 
 use yavrinks_model::confine::confine;
 use yavrinks_tools::definitions::{self, Options};
+use yavrinks_tools::vectors;
 
 const HELP: &str = "\
 yavrinks-tools: what uses the reference model of a capability table
@@ -16,7 +17,7 @@ Commands:
   confine   read an image, members and a list from standard input, and print
             `accepted` and the bound, one number a line, or `refused N`
   definitions [--seed N] [--runs N] [--rounds N] [--imports N] [--tests N]
-            [--keep DIR] [--root DIR]
+            [--steps N] [--keep DIR] [--root DIR]
             check the definitions of the repository against the model, with the
             toolchain's command `rt`; exit status 1 if an answer differs or
             could not be checked
@@ -29,7 +30,8 @@ Commands:
             rule: [--seed N] [--pairs N] [--broken NAME]
   vectors DIR
             write the cases and the expected output of the program `vectors`
-            into DIR, the folder of its crate
+            into DIR, the folder of its crate, and print how many of the steps
+            have empty copies of each kind
   help      print this text
 ";
 
@@ -43,7 +45,7 @@ fn main() -> ExitCode {
         ["program", path] => return yavrinks_tools::built_program::command(path, None),
         ["program", path, verb] => return yavrinks_tools::built_program::command(path, Some(verb)),
         ["two-runs", options @ ..] => return yavrinks_tools::two_runs::command(options),
-        ["vectors", folder] => yavrinks_tools::vectors::write(folder.as_ref()),
+        ["vectors", folder] => run_vectors(folder),
         _ => {
             eprint!("unknown command: {}\n\n{HELP}", words.join(" "));
             return ExitCode::from(2);
@@ -62,6 +64,11 @@ fn run_confine() -> io::Result<()> {
     let mut input = Vec::new();
     io::stdin().read_to_end(&mut input)?;
     print(&confine(&input))
+}
+
+fn run_vectors(folder: &str) -> io::Result<()> {
+    vectors::write(folder.as_ref())?;
+    print(&vectors::counts_text())
 }
 
 fn run_definitions(words: &[&str]) -> ExitCode {

@@ -4,8 +4,9 @@
 #[path = "../../tests/lines/mod.rs"]
 mod lines;
 
-use crate::generate::ConfinementCase;
-use lines::{field, hexadecimal, values, TestLine};
+use crate::generate::{ConfinementCase, StepCase};
+use lines::{field, hexadecimal, values, StepLine, TestLine};
+use yavrinks_model::table::Table;
 
 /// The bytes of every import in `vectors/2.2`, in the order of the file.
 pub fn shared_imports() -> Vec<Vec<u8>> {
@@ -32,6 +33,28 @@ fn shared_test(line: TestLine) -> SharedTest {
             table: line.table,
             members: line.members,
             list: line.list,
+        },
+        answer: line.answer,
+    }
+}
+
+/// A step with the reply and the table after it that the vectors say.
+pub struct SharedStep {
+    pub step: StepCase,
+    pub answer: (u8, Table),
+}
+
+/// Every step in `vectors/2.4`, in the order of the file.
+pub fn shared_steps() -> Vec<SharedStep> {
+    let lines = values(include_str!("../../vectors/2.4/steps.jsonl"));
+    lines.iter().map(StepLine::of).map(shared_step).collect()
+}
+
+fn shared_step(line: StepLine) -> SharedStep {
+    SharedStep {
+        step: StepCase {
+            table: line.table,
+            request: line.request,
         },
         answer: line.answer,
     }

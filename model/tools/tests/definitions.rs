@@ -5,7 +5,7 @@ use std::collections::{BTreeMap, BTreeSet};
 use std::fs;
 use std::path::{Path, PathBuf};
 
-use yavrinks_model::step::Request;
+use yavrinks_model::step::{step, Request};
 use yavrinks_model::table::{Capability, Record, Table, WK};
 use yavrinks_tools::definitions::askers::askers;
 use yavrinks_tools::definitions::cases::{subjects, Answer, Case, Part, Question};
@@ -17,9 +17,10 @@ use yavrinks_tools::definitions::statements::declarations;
 use yavrinks_tools::definitions::verdicts::{verdicts, Verdict};
 use yavrinks_tools::definitions::wrong::wrong_cases;
 use yavrinks_tools::definitions::{summary, terms, Options};
+use yavrinks_tools::empty_kinds::{empty_kinds, EmptyKind};
 use yavrinks_tools::generate::{any_damage, any_sound_table, ConfinementCase, ShownCase};
 use yavrinks_tools::rng::Rng;
-use yavrinks_tools::shared::{shared_imports, shared_tests};
+use yavrinks_tools::shared::{shared_imports, shared_steps, shared_tests};
 
 /// Nothing at all, for a test that asks for something by itself.
 const NOTHING: Counts = Counts {
@@ -27,6 +28,7 @@ const NOTHING: Counts = Counts {
     rounds: 0,
     imports: 0,
     tests: 0,
+    steps: 0,
 };
 
 fn cases_of(seed: u64, runs: usize, rounds: usize) -> Vec<Case> {
@@ -270,6 +272,22 @@ fn capabilities_are_stated_with_whether_they_pass() {
     assert!(text.contains(&statement), "{text}");
 }
 
+/// An empty copy on a filled slot, and wr on it.
+#[test]
+fn copies_are_stated_with_what_the_slot_then_holds() {
+    let case = Case::new(Question::Landing {
+        held: Capability::new(3, 9),
+        copies: vec![Capability::EMPTY, Capability::new(0, 2)],
+    });
+    let text = declarations(&case, 5, "A.b");
+    assert!(text.starts_with("-- case 5: where a copy lands, done\n"));
+    assert!(text.contains("held-0005 : Capability\nheld-0005 = slot 3 9\n"));
+    assert!(text.contains("copies-0005 = free ∷ slot 0 2 ∷ []\n"));
+    let statement = "case-0005 : _≡_ {A = List Capability} (map (landed held-0005) copies-0005) \
+                     (slot 3 9 ∷ slot 0 2 ∷ [])\n";
+    assert!(text.contains(statement), "{text}");
+}
+
 /// Entity 0 has Store and Grant to 1 in slot 1, and nothing that is kept in slot 0.
 #[test]
 fn an_import_is_stated_with_the_table_that_it_becomes() {
@@ -360,7 +378,7 @@ fn the_default_run_asks_everything() {
         .iter()
         .map(|case| (case.question.subject(), case.answer.number()))
         .collect();
-    let expected: [(&str, &[u8]); 20] = [
+    let expected: [(&str, &[u8]); 21] = [
         ("clean along a run", &[0]),
         ("1 read", &[0, 1, 2, 3, 4, 5, 6]),
         ("2 write", &[0, 1, 2, 3, 4, 5, 6]),
@@ -371,6 +389,7 @@ fn the_default_run_asks_everything() {
         ("7 allocate", &[0, 1, 2, 3, 9]),
         ("8 destroy", &[0, 1, 2, 3, 4, 5, 6, 8]),
         ("unknown code", &[1, 2]),
+        ("where a copy lands", &[0]),
         ("confinement test", &[0, 1, 10, 11, 12, 13]),
         ("rights of a member", &[0, 12]),
         ("chain to an object", &[0, 1, 10, 11, 12, 13, 18, 19]),
@@ -458,6 +477,46 @@ fn shared_tests_are_asked_on_demand() {
     assert_eq!(cases(1, &counts(7)), asked[..7]);
 }
 
+/// What the file says is expected, and the model says the same.
+#[test]
+fn shared_steps_are_asked_on_demand() {
+    let counts = |steps| Counts { steps, ..NOTHING };
+    let asked = cases(1, &counts(1000));
+    assert_eq!(asked.len(), 160);
+    for (case, shared) in asked.iter().zip(shared_steps()) {
+        let (reply, after) = shared.answer;
+        assert_eq!(case.answer, Answer::Table(reply, after));
+        let question = Question::Step {
+            table: shared.step.table,
+            request: shared.step.request,
+        };
+        assert_eq!(case, &Case::new(question));
+    }
+    assert_eq!(cases(1, &counts(7)), asked[..7]);
+}
+
+/// A round asks a step of every kind of empty copy, and where copies of every rights value land.
+#[test]
+fn every_kind_of_empty_copy_is_asked() {
+    let (mut kinds, mut landings) = (BTreeSet::new(), BTreeSet::new());
+    for case in cases_of(1, 0, 1) {
+        match &case.question {
+            Question::Step { table, request } if case.answer.number() == 0 => {
+                kinds.extend(empty_kinds(table, request));
+            }
+            Question::Landing { held, copies } => {
+                let rights = copies.iter().map(|copy| copy.rights);
+                assert!(rights.eq(0..16));
+                assert!(copies[0].is_empty());
+                landings.insert((held.is_empty(), copies[1].target == 0));
+            }
+            _ => {}
+        }
+    }
+    assert!(kinds.into_iter().eq(EmptyKind::ALL));
+    assert_eq!(landings.len(), 4);
+}
+
 /// Every rights value is asked with every list of one entry, with none, and with entries of another target.
 #[test]
 fn all_rights_are_asked_with_all_lists() {
@@ -492,8 +551,57 @@ fn wrong_answers_differ_from_the_right_ones() {
     // Of a list where all pass and of one where some do not, every rights value.
     let is_passing = |case: &&Case| matches!(case.question, Question::Passing { .. });
     assert_eq!(wrong.iter().filter(is_passing).count(), 2 * 16);
-    // Of each of nine other kinds a wrong number and wrong content, of least chains wrong content.
-    assert_eq!(wrong.len(), Part::ALL.len() + 3 + 2 * 16 + 2 * 9 + 1);
+    // Of the copies on a filled slot, every rights value and the empty one.
+    let is_landing = |case: &&Case| matches!(case.question, Question::Landing { .. });
+    assert_eq!(wrong.iter().filter(is_landing).count(), 16);
+    // Of steps a wrong number, wrong content, and the ten kinds where an empty copy emptied a slot.
+    let is_step = |case: &&Case| matches!(case.question, Question::Step { .. });
+    assert_eq!(wrong.iter().filter(is_step).count(), 2 + 10);
+    // Of each of eight other kinds a wrong number and wrong content, of least chains wrong content.
+    let others = 2 * 8 + 1;
+    assert_eq!(wrong.len(), Part::ALL.len() + 3 + 2 * 16 + 16 + 12 + others);
+}
+
+/// Statements by the rule from before 2.4: each says that some filled slot is emptied.
+#[test]
+fn emptied_slots_are_among_the_wrong_answers() {
+    let cases = cases_of(6, 0, 1);
+    let wrong = wrong_cases(&mut Rng::new(6), &cases);
+    let mut kinds = BTreeSet::new();
+    for case in &wrong {
+        let (Question::Step { table, request }, Answer::Table(0, stated)) =
+            (&case.question, &case.answer)
+        else {
+            continue;
+        };
+        let (reply, after) = step(table, request);
+        let slots = |table: &Table| {
+            table
+                .records
+                .iter()
+                .flat_map(|r| r.slots)
+                .collect::<Vec<_>>()
+        };
+        let (stated, after) = (slots(stated), slots(&after));
+        let mut changed = stated.iter().zip(&after).filter(|(now, kept)| now != kept);
+        if reply == 0 && changed.clone().count() > 0 && changed.all(|(now, _)| now.is_empty()) {
+            kinds.extend(empty_kinds(table, request));
+        }
+    }
+    for kind in [
+        EmptyKind::FetchWithRd,
+        EmptyKind::FetchWithoutRd,
+        EmptyKind::WeakenedWr,
+        EmptyKind::WeakenedTx,
+        EmptyKind::WeakenedWrTx,
+        EmptyKind::Store,
+        EmptyKind::Send,
+        EmptyKind::SendEmptyAfterFilled,
+        EmptyKind::SendToOneself,
+        EmptyKind::AllocateEmptyAfterFilled,
+    ] {
+        assert!(kinds.contains(&kind), "{kind:?}");
+    }
 }
 
 /// Chains of one length compete in most of the least chains that are asked, and in some others.
@@ -778,6 +886,8 @@ fn options_are_read() {
         "160",
         "--tests",
         "80",
+        "--steps",
+        "160",
         "--keep",
         "/x",
         "--root",
@@ -786,6 +896,7 @@ fn options_are_read() {
     let options = Options::parse(&words).expect("options");
     assert_eq!((options.seed, options.counts.runs), (9, 5));
     assert_eq!((options.counts.imports, options.counts.tests), (160, 80));
+    assert_eq!(options.counts.steps, 160);
     assert_eq!(options.counts.rounds, Counts::default().rounds);
     assert_eq!(options.keep, Some("/x".into()));
     assert_eq!(options.root, Path::new("/y"));

@@ -6,10 +6,12 @@ use std::collections::{BTreeMap, BTreeSet};
 use yavrinks_model::runs::run;
 use yavrinks_model::set;
 use yavrinks_model::step::{step, step_in_place, weaken, Pair, Request};
-use yavrinks_model::table::{Capability, Record, Table};
+use yavrinks_model::table::{Capability, Record, Slots, Table};
 use yavrinks_model::table::{ACTIVE, ALIVE, ALL_RIGHTS, DEAD, RD, TX, WK, WR};
+use yavrinks_tools::empty_kinds::{empty_kinds, EmptyKind};
 use yavrinks_tools::generate::{
-    any_request, any_sound_table, can_meet, likely_request, sound_table, step_case, Shape,
+    any_request, any_sound_table, can_meet, empty_copy_case, likely_request, sound_table,
+    step_case, Shape,
 };
 use yavrinks_tools::rng::Rng;
 
@@ -19,10 +21,11 @@ fn target_of(before: &Table, request: &Request) -> Option<u8> {
     Some(before.record(request.actor()).slots[t as usize].target)
 }
 
-/// The source of the last pair that copies into slot k.
-fn last_source(list: &[Pair], k: u8) -> Option<usize> {
-    let pair = list.iter().rev().find(|pair| pair.1 == k)?;
-    Some(pair.0 as usize)
+/// What the last pair with a filled source brings to slot k.
+fn last_filled(own: &Slots, list: &[Pair], k: u8) -> Option<Capability> {
+    let to_slot = list.iter().rev().filter(|pair| pair.1 == k);
+    let mut brought = to_slot.map(|pair| own[pair.0 as usize]);
+    brought.find(|copy| copy.rights != 0)
 }
 
 /// Slot k of number n after a request that is done.
@@ -35,22 +38,26 @@ fn expected_slot(before: &Table, request: &Request, n: u8, k: u8) -> Capability 
         Request::Fetch { t, i, j, .. } if at_actor && k == *j => {
             let used = own[*t as usize];
             let found = before.record(used.target).slots[*i as usize];
-            match used.rights & RD {
-                0 => weaken(found),
+            match (used.rights & RD, found.rights) {
+                (_, 0) | (0, 2 | 8 | 10) => old,
+                (0, _) => weaken(found),
                 _ => found,
             }
         }
-        Request::Store { i, j, .. } if at_target && k == *j => own[*i as usize],
+        Request::Store { i, j, .. } if at_target && k == *j => match own[*i as usize].rights {
+            0 => old,
+            _ => own[*i as usize],
+        },
         Request::Revoke { j, .. } if at_target && k == *j => Capability::EMPTY,
-        Request::Send { list, reply, .. } if at_target => match last_source(list, k) {
+        Request::Send { list, reply, .. } if at_target => match last_filled(&own, list, k) {
             _ if k == *reply => Capability::new(request.actor(), TX),
-            Some(source) => own[source],
+            Some(copy) => copy,
             None => old,
         },
         Request::Allocate {
             n: made, i, list, ..
-        } => match last_source(list, k) {
-            Some(source) if n == *made => own[source],
+        } => match last_filled(&own, list, k) {
+            Some(copy) if n == *made => copy,
             _ if at_actor && k == *i => Capability::new(*made, ALL_RIGHTS),
             _ => old,
         },
@@ -276,4 +283,35 @@ fn runs_reach_every_request_done_and_chain_their_tables() {
         let count = done.get(&code).copied().unwrap_or(0);
         assert!(count >= 100, "code {code} was done {count} times");
     }
+}
+
+#[test]
+fn every_kind_of_empty_copy_agrees_with_the_formulas() {
+    let mut rng = Rng::new(13);
+    for kind in EmptyKind::ALL {
+        for _ in 0..150 {
+            let case = empty_copy_case(&mut rng, kind);
+            assert_eq!(checked_step(&case.table, &case.request).0, 0);
+            assert!(empty_kinds(&case.table, &case.request).contains(&kind));
+        }
+    }
+}
+
+/// Of the requests that a table is likely to grant, enough are of each kind to be met in runs.
+#[test]
+fn likely_requests_have_empty_copies_of_every_kind() {
+    let mut rng = Rng::new(14);
+    let mut counts: BTreeMap<EmptyKind, u32> = BTreeMap::new();
+    for _ in 0..20_000 {
+        let shape = Shape::mixed(&mut rng);
+        let table = sound_table(&mut rng, &shape);
+        let request = likely_request(&mut rng, &table);
+        if step(&table, &request).0 == 0 {
+            for kind in empty_kinds(&table, &request) {
+                *counts.entry(kind).or_default() += 1;
+            }
+        }
+    }
+    println!("{counts:?}");
+    assert!(EmptyKind::ALL.iter().all(|kind| counts[kind] >= 20));
 }

@@ -8,12 +8,14 @@ use yavrinks_model::runs::{clean_at_start, clean_part, run};
 use yavrinks_model::set;
 use yavrinks_model::step::{step, Request};
 use yavrinks_model::table::Table;
+use yavrinks_tools::empty_kinds::EmptyKind;
 use yavrinks_tools::generate::{
-    any_request, any_sound_table, can_meet, confinement_case, likely_request, step_case,
-    CONFINEMENT_NUMBERS,
+    any_request, any_sound_table, can_meet, confinement_case, empty_copy_case, likely_request,
+    step_case, CONFINEMENT_NUMBERS,
 };
 use yavrinks_tools::rng::Rng;
-use yavrinks_tools::two_runs::rules::{Access, Naming, Rules, StandIn, Unlisted, BROKEN};
+use yavrinks_tools::two_runs::rules::{Access, Naming, StandIn, Unlisted};
+use yavrinks_tools::two_runs::rules::{Destroyed, Empty, Makes, Rules, Weakening, BROKEN};
 use yavrinks_tools::two_runs::runs::Move;
 use yavrinks_tools::two_runs::shrink::{replay, shrink};
 use yavrinks_tools::two_runs::start::draw_start;
@@ -35,6 +37,11 @@ fn the_model_keeps_the_claim() {
     assert!(2 * (trial.unlisted_in_one + trial.unlisted_in_both) > trial.pairs);
     assert!(trial.used_in_one > 100);
     assert!(trial.tally.unlisted_reads > 100 && trial.tally.unlisted_fetches > 100);
+    assert!(trial.empty_in_one > 100 && trial.tally.empty_by_others.of_clean > 100);
+    for empty in [trial.tally.empty_by_clean, trial.tally.empty_by_others] {
+        assert!(empty.all > 1000 && empty.on_filled > 500, "{empty:?}");
+        assert!(empty.weakened_to_nothing > 50, "{empty:?}");
+    }
     for code in 1..=8 {
         let (clean, others) = trial.tally.by_code(code);
         let counts = [clean.done, clean.refused, others.done, others.refused];
@@ -150,6 +157,12 @@ fn with_nothing_broken_a_step_is_the_models_step() {
             }
         }
     }
+    for kind in EmptyKind::ALL {
+        for _ in 0..100 {
+            let case = empty_copy_case(&mut rng, kind);
+            assert_same_step(&Rules::DOCUMENT, &case.table, &case.request);
+        }
+    }
 }
 
 #[test]
@@ -165,7 +178,20 @@ fn with_nothing_broken_the_test_is_the_models_test() {
     }
 }
 
-/// A broken model departs from the document in steps or in the test, never in both.
+/// Whether rules can change a step with the code.
+fn may_change(rules: &Rules, code: u8) -> bool {
+    let weakening = rules.weakening != Weakening::ToWk;
+    let empty = rules.empty != Empty::WhatItHeld;
+    match code {
+        3 => weakening || empty,
+        4 | 6 => empty,
+        7 => empty || rules.makes != Makes::OwnStock,
+        8 => rules.destroyed != Destroyed::Kind,
+        _ => false,
+    }
+}
+
+/// A broken model departs from the document in steps of few codes or in the test, never in both.
 #[test]
 fn a_broken_rule_leaves_the_rest_as_it_is() {
     let mut rng = Rng::new(54);
@@ -175,11 +201,12 @@ fn a_broken_rule_leaves_the_rest_as_it_is() {
             && rules.unlisted == Unlisted::WkAlone
             && rules.naming == Naming::All
             && rules.stand_in == StandIn::List;
+        let steps_are_whole = !(1..=8).any(|code| may_change(rules, code));
+        assert_ne!(test_is_whole, steps_are_whole, "{}", broken.name);
         for _ in 0..300 {
             let table = any_sound_table(&mut rng);
             let request = likely_request(&mut rng, &table);
-            let may_differ = test_is_whole && matches!(request.code(), 3 | 7);
-            if !may_differ {
+            if !may_change(rules, request.code()) {
                 assert_same_step(rules, &table, &request);
             }
             let aim = rng.pick(&CONFINEMENT_NUMBERS).expect("number");

@@ -9,8 +9,10 @@ use yavrinks_model::chain::chain as shown_chain;
 use yavrinks_model::confinement::confinement_test;
 use yavrinks_model::image::{read, write};
 use yavrinks_model::step::{step, step_in_place, Request};
+use yavrinks_model::table::{Capability, TX};
 use yavrinks_model::take_grant::import;
-use yavrinks_tools::generate::can_meet;
+use yavrinks_tools::copies::reply_slot;
+use yavrinks_tools::generate::{can_meet, StepCase};
 use yavrinks_tools::shared::{shared_imports, shared_tests};
 use yavrinks_tools::vectors::{
     access_cases, chain, edges, image_cases, import_cases, output, parts, shown_cases, step_cases,
@@ -71,7 +73,7 @@ fn steps_reach_every_reply_of_every_request() {
             let known = (1..=8).contains(&code);
             let least = match reply {
                 0 => 16,
-                _ if known => 6,
+                _ if known => 5,
                 _ => 0,
             };
             let times = replies.get(&(code, reply)).copied().unwrap_or(0);
@@ -86,6 +88,37 @@ fn steps_reach_every_reply_of_every_request() {
             .count()
             >= 10
     );
+}
+
+/// Document 01 has the actor's slots copied as they were before the request. If a pair copied what one before
+/// it wrote, some sends to the actor itself would leave other slots.
+#[test]
+fn sends_to_oneself_tell_slots_before_the_request_from_slots_on_the_way() {
+    let mut telling = 0;
+    for StepCase { table, request } in step_cases() {
+        let Request::Send {
+            actor, t, ref list, ..
+        } = request
+        else {
+            continue;
+        };
+        let (reply, after) = step(&table, &request);
+        if reply != 0 || table.record(actor).slots[usize::from(t)].target != actor {
+            continue;
+        }
+        let mut slots = table.record(actor).slots;
+        for &(from, to) in list {
+            let copy = slots[usize::from(from)];
+            if !copy.is_empty() {
+                slots[usize::from(to)] = copy;
+            }
+        }
+        if let Some(slot) = reply_slot(&request) {
+            slots[usize::from(slot)] = Capability::new(actor, TX);
+        }
+        telling += usize::from(after.record(actor).slots != slots);
+    }
+    assert!(telling >= 8, "{telling}");
 }
 
 #[test]

@@ -78,6 +78,45 @@
 //! has to say so: [`Table::step_as`] takes the actor apart from the bytes and overwrites theirs.
 //! [`Table::step_bytes`] believes them, and is for bytes that the firmware wrote itself.
 //!
+//! # Empty copies
+//!
+//! A fetch, a store, a send and an allocate copy slots. A copy that comes out empty changes no slot: the
+//! destination holds what it held before.
+//!
+//! | request | its copy is empty | then |
+//! |---|---|---|
+//! | [fetch](Request::Fetch) | of an empty slot; through wk without rd also of rights 2, 8 or 10 | the actor's slot stays |
+//! | [store](Request::Store) | of an empty slot | the target's slot stays |
+//! | [send](Request::Send) | of an empty slot, for each pair | the target's slot stays as the pairs before left it |
+//! | [allocate](Request::Allocate) | of an empty slot, for each pair | the new object's slot stays as the pairs before left it, at first empty |
+//!
+//! So of several pairs to one slot the last one that is not empty wins, and the reply slot of a send comes after
+//! all of them. The request is done all the same: `Ok(())` does not say that something came. A slot of an object
+//! that stays alive is emptied by a [revoke](Request::Revoke), and by nothing else; a
+//! [destroy](Request::Destroy) takes all slots with the object.
+//!
+//! ```
+//! use captable::{Capability, Request, StepRefusal, Table, ACTIVE, ALIVE, RD, WR};
+//!
+//! // The routine 0 reads 1 through its slot 0, its channel, and has wr over itself in slot 1.
+//! let mut table = Table::unborn();
+//! table.record_mut(0).status = ALIVE;
+//! table.record_mut(0).kind = ACTIVE;
+//! table.record_mut(1).status = ALIVE;
+//! let channel = Capability { target: 1, rights: RD };
+//! *table.slot_mut(0, 0) = channel;
+//! *table.slot_mut(0, 1) = Capability { target: 0, rights: WR };
+//!
+//! // All slots of 1 are empty. A fetch from one of them into slot 0 is done and leaves the channel.
+//! table.step(&Request::Fetch { actor: 0, t: 0, i: 3, j: 0 })?;
+//! assert_eq!(*table.slot(0, 0), channel);
+//!
+//! // A revoke empties it.
+//! table.step(&Request::Revoke { actor: 0, t: 1, j: 0 })?;
+//! assert_eq!(*table.slot(0, 0), Capability::EMPTY);
+//! # Ok::<(), StepRefusal>(())
+//! ```
+//!
 //! # What needs an entry
 //!
 //! The list of a [test](Table::test) has up to eight entries, each a target and rights. What a member holds
@@ -182,7 +221,7 @@ pub const TX: u8 = 8;
 
 /// The version of the calls that this crate was written for: 65,536 times the first number, 256 times the
 /// second, and the third.
-pub const VERSION: u32 = 0x00_04_00;
+pub const VERSION: u32 = 0x00_05_00;
 
 /// The version of the calls that were linked. Where it is not [`VERSION`], the archive is another than the
 /// crate was written for.

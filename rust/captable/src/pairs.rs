@@ -12,6 +12,9 @@ pub type Pair = (u8, u8);
 /// A list of 0 to 4 pairs. An array of so many is one by `into()`; of a slice, whose length may be too
 /// great, `try_from` makes one.
 ///
+/// Pairs apply left to right and read the actor's slots as they were before the request. A later one to the
+/// same slot wins only if its copy is not empty: see [empty copies](crate#empty-copies).
+///
 /// ```
 /// use captable::PairList;
 ///

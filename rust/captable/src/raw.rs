@@ -107,7 +107,8 @@ extern "C" {
     pub fn captable_version() -> u32;
     /// 0 for a sound table, 1 for any other.
     pub fn captable_sound(table: Table) -> u8;
-    /// One request on the lent table. A refusal leaves the table as it was.
+    /// One request on the lent table. A refusal leaves the table as it was, and a copy that comes out empty the
+    /// slot that it goes to.
     ///
     /// The second byte of the request names the actor, whose rights are used: the caller vouches for it.
     ///

@@ -51,7 +51,7 @@ refusals! {
         FieldInvalid = 2, "a field is out of range";
         /// The actor is not an alive active object.
         ActorUnfit = 3, "the actor is not alive and active";
-        /// The slot that is used is empty.
+        /// The slot that is used, `t`, is empty. One that is copied may be empty: nothing is copied then.
         SlotEmpty = 4, "the slot is empty";
         /// The target is dead.
         TargetDead = 5, "the target is dead";

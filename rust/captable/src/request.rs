@@ -27,6 +27,9 @@ pub const REQUEST_BYTES: usize = 14 + 2 * MAX_PAIRS;
 ///
 /// The actor is who asks, and all that a request may do it may do as the actor. Nothing in the table can
 /// tell whether the actor is right: whoever makes a request vouches for it.
+///
+/// A copy that comes out empty changes no slot, in fetch, store, send and allocate: see
+/// [empty copies](crate#empty-copies).
 #[derive(Clone, Copy, Debug, PartialEq, Eq)]
 pub enum Request {
     /// The actor's word becomes the target's word. Needs rd or wk.
@@ -45,7 +48,8 @@ pub enum Request {
         /// The new word.
         word: u32,
     },
-    /// The target's slot i goes to the actor's slot j, weakened if rd is absent. Needs rd or wk.
+    /// The target's slot i goes to the actor's slot j, weakened if rd is absent. Needs rd or wk. A copy that
+    /// comes out empty leaves slot j as it was: one of an empty slot, and without rd one of rights 2, 8 or 10.
     Fetch {
         /// The object that asks.
         actor: u8,
@@ -56,7 +60,7 @@ pub enum Request {
         /// The actor's slot that the copy lands in.
         j: u8,
     },
-    /// The actor's slot i goes to the target's slot j. Needs wr.
+    /// The actor's slot i goes to the target's slot j. Needs wr. If slot i is empty, slot j is left as it was.
     Store {
         /// The object that asks.
         actor: u8,
@@ -67,7 +71,8 @@ pub enum Request {
         /// The target's slot that the copy lands in.
         j: u8,
     },
-    /// The target's slot j is emptied. Needs wr.
+    /// The target's slot j is emptied. Needs wr. No other request empties a slot of an object that stays
+    /// alive. To empty a slot of its own, an object needs wr over itself.
     Revoke {
         /// The object that asks.
         actor: u8,
@@ -77,7 +82,7 @@ pub enum Request {
         j: u8,
     },
     /// The word and the pairs go to an active target, and then perhaps a capability to answer by. Needs
-    /// tx.
+    /// tx. A slot that gets none but empty copies is left as it was.
     Send {
         /// The object that asks.
         actor: u8,
@@ -87,10 +92,11 @@ pub enum Request {
         word: u32,
         /// The actor's slots that are copied into the target, in this order.
         list: PairList,
-        /// The target's slot that gets (actor, tx), or [`NO_REPLY`].
+        /// The target's slot that gets (actor, tx) after the pairs, or [`NO_REPLY`].
         reply: u8,
     },
-    /// A number of the actor's stock becomes an alive object.
+    /// A number of the actor's stock becomes an alive object. Its slots are empty, but for those where a
+    /// filled copy lands.
     Allocate {
         /// The object that asks.
         actor: u8,
@@ -105,7 +111,8 @@ pub enum Request {
         /// The actor's slots that are copied into it, in this order.
         list: PairList,
     },
-    /// The target becomes dead, and its stock joins the actor's. Needs wr.
+    /// The target becomes dead: it loses its word and slots and keeps its kind, and its stock joins the
+    /// actor's. Needs wr.
     Destroy {
         /// The object that asks.
         actor: u8,

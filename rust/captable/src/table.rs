@@ -126,7 +126,8 @@ impl Table {
 
     /// One request. A refusal leaves the table as it was.
     ///
-    /// The request's actor is who asks, and the caller vouches for it.
+    /// The request's actor is who asks, and the caller vouches for it. A copy that comes out empty changes no
+    /// slot, and the request is done all the same: see [empty copies](crate#empty-copies).
     ///
     /// # Errors
     /// 1 to 9, the first cause in number order.

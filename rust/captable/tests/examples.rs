@@ -45,6 +45,7 @@ fn allocates_of_examples_6_and_7() {
     assert_eq!(k().step(&ask(12)), Err(StepRefusal::NotInStock));
 }
 
+/// Slot 5 of 2 is empty, and is left so where weakening gives an empty copy.
 #[test]
 fn fetches_weaken_as_in_example_8() {
     for (held, weakened) in [(1, cap(6, 4)), (15, cap(6, 4)), (10, cap(0, 0))] {

@@ -9,24 +9,15 @@ use captable::raw::{
     captable_step_by_value, captable_test, captable_write, Finding, Outcome, Shown,
 };
 use captable::{Table, ACTIVE, ALIVE, WK, WR};
-use common::{cap, k, set};
+use common::{cap, k, set, step_in_both_forms};
 use std::ptr::{null, null_mut};
 
 #[test]
 fn both_forms_of_the_step_agree() {
     let write = [2, 4, 0, 0, 0, 0, 7];
     for request in [&write[..], &write[..6], &[99, 0], &[1, 2, 0]] {
-        let mut lent = k();
-        // SAFETY: the table and the bytes are this test's own.
-        let (number, outcome) = unsafe {
-            (
-                captable_step(lent.as_raw_mut(), request.as_ptr(), request.len()),
-                captable_step_by_value(*k().as_raw(), request.as_ptr(), request.len()),
-            )
-        };
-        assert_eq!(outcome.number, number);
-        assert_eq!(outcome.table, *lent.as_raw());
-        assert_eq!(lent == k(), number != 0 || request == [1, 2, 0]);
+        let (number, after) = step_in_both_forms(&k(), request);
+        assert_eq!(after == k(), number != 0 || request == [1, 2, 0]);
     }
 }
 

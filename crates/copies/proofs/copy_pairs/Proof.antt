@@ -36,6 +36,12 @@ cast-from c = search needs
 cast-to : tie.Need-cast-to Inv-pairs μ-pairs
 cast-to c = search needs
 
+mul-got : tie.Need-mul-got Inv-pairs μ-pairs
+mul-got c = search needs
+
+element-copy-out-got : tie.Need-element-copy-out-got Inv-pairs μ-pairs
+element-copy-out-got c = c .before .before .before .before .before .pre .1 .pairs (c .before .before .before .before .pairs .x) (c .before .before .before .pairs-test .taken) .0
+
 mul-old : tie.Need-mul-old Inv-pairs μ-pairs
 mul-old c = search needs
 
@@ -46,13 +52,7 @@ mul-old-2 : tie.Need-mul-old-2 Inv-pairs μ-pairs
 mul-old-2 c = search needs
 
 element-copy-out-old : tie.Need-element-copy-out-old Inv-pairs μ-pairs
-element-copy-out-old c = omega (arith, c .before .before .before .before .before .pre .1 .pairs (c .before .before .before .before .pairs .x) (c .before .before .before .pairs-test .taken))
-
-mul-landed : tie.Need-mul-landed Inv-pairs μ-pairs
-mul-landed c = search needs
-
-element-copy-out-landed : tie.Need-element-copy-out-landed Inv-pairs μ-pairs
-element-copy-out-landed c = c .before .before .before .before .before .before .pre .1 .pairs (c .before .before .before .before .before .pairs .x) (c .before .before .before .before .pairs-test .taken) .0
+element-copy-out-old c = omega (arith, c .before .before .before .before .before .before .pre .1 .pairs (c .before .before .before .before .before .pairs .x) (c .before .before .before .before .pairs-test .taken))
 
 landed-requires : tie.Need-landed-requires Inv-pairs μ-pairs
 landed-requires c κs = search needs
@@ -95,12 +95,12 @@ copy-pairs-spec =
     element-copy-out-p
     cast-from
     cast-to
+    mul-got
+    element-copy-out-got
     mul-old
     add-old
     mul-old-2
     element-copy-out-old
-    mul-landed
-    element-copy-out-landed
     landed-requires
     mul-new
     add-new

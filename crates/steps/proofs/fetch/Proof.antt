@@ -46,11 +46,11 @@ element-copy-out-fetched c = let v = c .before .before .before .check-slot in
 fetched-requires : tie.Need-fetched-requires
 fetched-requires c κs = search needs
 
-mul-landed : tie.Need-mul-landed
-mul-landed c = search needs
+mul-old : tie.Need-mul-old
+mul-old c = search needs
 
-element-copy-out-landed : tie.Need-element-copy-out-landed
-element-copy-out-landed c = let v = c .before .before .before .before .before .check-slot in
+element-copy-out-old : tie.Need-element-copy-out-old
+element-copy-out-old c = let v = c .before .before .before .before .before .check-slot in
     let d = not-false (v .result .done) (c .before .before .before .if1 .left) in
     omega (arith, v .ensures .actor d, slots-placed (c .before .before .before .before .before .before .args .i) (c .before .before .before .before .before .before .args .j) (v .ensures .fields d))
 
@@ -87,8 +87,8 @@ fetch-spec =
     mul-fetched
     element-copy-out-fetched
     fetched-requires
-    mul-landed
-    element-copy-out-landed
+    mul-old
+    element-copy-out-old
     landed-requires
     mul-new
     element-set-from-new

@@ -35,21 +35,21 @@ mul-to c = search needs
 add-to : tie.Need-add-to
 add-to c = search needs
 
-mul-landed : tie.Need-mul-landed
-mul-landed c = search needs
+mul-given : tie.Need-mul-given
+mul-given c = search needs
 
-element-copy-out-landed : tie.Need-element-copy-out-landed
-element-copy-out-landed c = let v = c .before .before .before .check-slot in
+element-copy-out-given : tie.Need-element-copy-out-given
+element-copy-out-given c = let v = c .before .before .before .check-slot in
     let d = not-false (v .result .done) (c .before .if1 .left) in
-    omega (arith, v .ensures .within d, slots-placed (c .before .before .before .before .args .i) (c .before .before .before .before .args .j) (v .ensures .fields d))
+    omega (arith, v .ensures .actor d, slots-placed (c .before .before .before .before .args .i) (c .before .before .before .before .args .j) (v .ensures .fields d))
 
-mul-landed-2 : tie.Need-mul-landed-2
-mul-landed-2 c = search needs
+mul-old : tie.Need-mul-old
+mul-old c = search needs
 
-element-copy-out-landed-2 : tie.Need-element-copy-out-landed-2
-element-copy-out-landed-2 c = let v = c .before .before .before .before .check-slot in
+element-copy-out-old : tie.Need-element-copy-out-old
+element-copy-out-old c = let v = c .before .before .before .before .check-slot in
     let d = not-false (v .result .done) (c .before .before .if1 .left) in
-    omega (arith, v .ensures .actor d, slots-placed (c .before .before .before .before .before .args .i) (c .before .before .before .before .before .args .j) (v .ensures .fields d))
+    omega (arith, v .ensures .within d, slots-placed (c .before .before .before .before .before .args .i) (c .before .before .before .before .before .args .j) (v .ensures .fields d))
 
 landed-requires : tie.Need-landed-requires
 landed-requires c κs = search needs
@@ -81,10 +81,10 @@ store-spec =
     cast-to
     mul-to
     add-to
-    mul-landed
-    element-copy-out-landed
-    mul-landed-2
-    element-copy-out-landed-2
+    mul-given
+    element-copy-out-given
+    mul-old
+    element-copy-out-old
     landed-requires
     mul-new
     element-set-from-new

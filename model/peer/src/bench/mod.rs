@@ -10,7 +10,7 @@ use std::process::ExitCode;
 
 use yavrinks_tools::progress::Progress;
 
-use crate::samples::{imports, material_test, places, requests, row, Place};
+use crate::samples::{imports, keeping, material_test, places, requests, row, Place};
 use measure::{Figures, ROUNDS};
 
 /// The most that a lent step should take, in scans.
@@ -21,20 +21,26 @@ const NOTE: &str = "\
 Nanoseconds a call are the least of the rounds. Below 1.00 the proved call is faster. Middle, low and
 high are of the ratios of the single rounds. By value both sides copy the table. Lent, an allocate and a
 destroy are undone after each call, on both sides alike. The time of the scan in C stands under proved.
+The two requests whose copies come out empty leave filled slots as they were.
 A chain is that to the object farthest off. With 64 wk unlisted, eight members hold wk alone in all their
 slots and the list is empty. A full import has 64 entities of eight capabilities, a small one three.
 ";
 
-/// Times everything and prints a line a call.
-pub fn command() -> ExitCode {
-    let places = places();
+/// How many calls are timed.
+fn calls(places: &[Place]) -> usize {
     let each: usize = places
         .iter()
         .map(|place| requests(&place.table).len())
         .sum();
     // The chain against the test, and on the row against the model too.
     let chains = places.len() + 2;
-    let all = 3 * each + places.len() * wholes::ALL.len() + 1 + chains + imports().len();
+    3 * (each + keeping().len()) + places.len() * wholes::ALL.len() + 1 + chains + imports().len()
+}
+
+/// Times everything and prints a line a call.
+pub fn command() -> ExitCode {
+    let places = places();
+    let all = calls(&places);
     eprintln!("bench: {all} calls to be timed, about a tenth of a second each");
     let mut timing = Timing::new(all as u64);
 
@@ -53,6 +59,7 @@ pub fn command() -> ExitCode {
             timing.on(place, name, || figures(place));
         }
     }
+    keeping_steps(&mut timing);
     timing.line("confinement test, 64 wk unlisted", || {
         wholes::test_of(&material_test())
     });
@@ -63,6 +70,18 @@ pub fn command() -> ExitCode {
     }
     archive_alone(&places, &mut timing);
     ExitCode::SUCCESS
+}
+
+/// The requests whose copies come out empty, in both forms of the step.
+fn keeping_steps(timing: &mut Timing) {
+    for case in keeping() {
+        timing.line(&format!("{} by value", case.name), || {
+            steps::by_value(&case.table, &case.request)
+        });
+        timing.line(&format!("{} lent", case.name), || {
+            steps::lent(&case.table, &case.request)
+        });
+    }
 }
 
 /// The archive's calls against one another and against the scan in C.
@@ -80,6 +99,11 @@ fn archive_alone(places: &[Place], timing: &mut Timing) {
                 steps::lent_against_scan(&place.table, &request)
             });
         }
+    }
+    for case in keeping() {
+        timing.line(&format!("{} lent", case.name), || {
+            steps::lent_against_scan(&case.table, &case.request)
+        });
     }
 }
 

@@ -3,7 +3,7 @@
 
 use yavrinks_model::step::{Code, Fields, Pair, Request, MAX_PAIRS, NO_REPLY};
 use yavrinks_model::table::{Record, Table, ACTIVE, OBJECTS, SLOTS};
-use yavrinks_tools::generate::{actor_mut, bounded_fields};
+use yavrinks_tools::generate::{actor_mut, bounded_fields, turn_to_empty};
 use yavrinks_tools::rng::Rng;
 
 /// A code and a reply to aim at; some several times, so that they are drawn more often. Destroys that
@@ -29,6 +29,23 @@ pub fn aimed(rng: &mut Rng, table: &Table) -> Request {
         0 => put_out_of_range(rng, &mut request),
         1 => let_another_act(rng, &mut request),
         _ => {}
+    }
+    request
+}
+
+/// The requests that copy slots, and the one that empties them.
+const COPYING: [u8; 9] = [3, 3, 3, 4, 4, 6, 6, 7, 5];
+
+/// A request aimed at 0 whose copies come out empty, or some of them, where the table has empty slots; or a revoke.
+pub fn empty_copy(rng: &mut Rng, table: &Table) -> Request {
+    let code = rng.pick(&COPYING).and_then(Code::of);
+    let mut request = match code.unwrap_or(Code::Fetch) {
+        Code::Allocate => allocate(rng, table, 0),
+        through => through_slot(rng, table, through, 0),
+    };
+    // Where a table is not sound, a target may be no object, and all is refused by 1.
+    if table.is_sound() {
+        turn_to_empty(rng, table, &mut request);
     }
     request
 }

@@ -1,8 +1,10 @@
-//! How often each call gave each number, and the table that is printed of it.
+//! How often each call gave each number, how often empty copies were met, and the tables that are printed of it.
 
 use std::fmt;
 
-use yavrinks_model::step::Code;
+use yavrinks_model::step::{Code, Request};
+use yavrinks_model::table::Table;
+use yavrinks_tools::empty_kinds::{EmptyCounts, EmptyKind};
 
 /// The numbers that calls give are 0 to 22.
 const NUMBERS: usize = 23;
@@ -69,11 +71,12 @@ impl Line {
 const TESTS: [Line; 3] = [Line::Test, Line::Chain, Line::Confine];
 
 /// How often each line had each number: in all, and of tests those where a member holds wk alone that the
-/// list lacks.
+/// list lacks. How often each kind of empty copies came.
 #[derive(Clone, Debug, Default, PartialEq, Eq)]
 pub struct Counts {
     all: [[u64; NUMBERS]; LINES],
     unlisted: [[u64; NUMBERS]; LINES],
+    empty: EmptyCounts,
 }
 
 impl Counts {
@@ -85,6 +88,16 @@ impl Counts {
     /// Counts apart an answer to a test where a member holds wk alone that the list lacks.
     pub fn add_unlisted(&mut self, line: Line, number: u8) {
         self.unlisted[line.place()][usize::from(number)] += 1;
+    }
+
+    /// Counts the empty copies of a request that was done on the table.
+    pub fn add_empty(&mut self, before: &Table, request: &Request) {
+        self.empty.count(before, request);
+    }
+
+    /// How often a request that was done was of the kind.
+    pub fn of_empty(&self, kind: EmptyKind) -> u64 {
+        self.empty.of(kind)
     }
 
     /// How often the line had the number.
@@ -104,6 +117,11 @@ impl fmt::Display for Counts {
         let (requests, others) = names.split_at(FIRST_OTHER);
         let (replies, numbers) = self.all.split_at(FIRST_OTHER);
         write_part(out, "requests by reply", requests, replies)?;
+        writeln!(out)?;
+        writeln!(out, "empty copies in requests that were done")?;
+        for kind in EmptyKind::ALL {
+            writeln!(out, "{:58}{:>9}", kind.label(), self.of_empty(kind))?;
+        }
         writeln!(out)?;
         write_part(out, "other calls by number", others, numbers)?;
         writeln!(out)?;

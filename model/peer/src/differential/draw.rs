@@ -1,4 +1,4 @@
-//! The bytes of a step: aimed requests, random ones, and bytes that are no request.
+//! The bytes of a step: aimed requests, ones with empty copies, random ones, and bytes that are no request.
 
 use yavrinks_model::step::{Code, Request};
 use yavrinks_model::table::Table;
@@ -6,13 +6,14 @@ use yavrinks_model::wire::{encode, request_in};
 use yavrinks_tools::generate::{any_request, bounded_fields};
 use yavrinks_tools::rng::Rng;
 
-use super::aim::{aimed, in_range, pair};
+use super::aim::{aimed, empty_copy, in_range, pair};
 use super::steps::Ask;
 
 /// The next bytes for the table as it is.
 pub fn draw(rng: &mut Rng, table: &Table) -> Ask {
     match rng.between(0, 99) {
-        0..=66 => ask(aimed(rng, table)),
+        0..=51 => ask(aimed(rng, table)),
+        52..=66 => ask(empty_copy(rng, table)),
         67..=76 => ask(any_request(rng)),
         77..=82 => ask(random_fields(rng)),
         83..=85 => unknown_code(rng),
@@ -25,7 +26,7 @@ pub fn draw(rng: &mut Rng, table: &Table) -> Ask {
 }
 
 /// A request with its bytes.
-fn ask(request: Request) -> Ask {
+pub fn ask(request: Request) -> Ask {
     Ask {
         bytes: encode(&request).into_boxed_slice(),
         request: Some(request),

@@ -24,6 +24,7 @@ pub use wholes::{
 use std::process::ExitCode;
 
 use yavrinks_model::step::{Code, Request};
+use yavrinks_tools::empty_kinds::EmptyKind;
 use yavrinks_tools::progress::Progress;
 use yavrinks_tools::rng::Rng;
 
@@ -37,8 +38,10 @@ use unlisted::count_input;
 /// After so many requests the other calls are compared on the table as it is.
 const BETWEEN_SWEEPS: u64 = 512;
 
-/// What the last part of the counts is.
-const UNLISTED: &str = "\
+/// What the parts of the counts are that are not calls by number.
+const NOTE: &str = "\
+empty copies: of the requests that were done those in which a copy came out empty, and revokes; each is
+counted once in every line that it belongs to
 unlisted wk: a member holds wk alone over a non-member, and the list has no wk for it. Under 0 such
 tests were accepted and such chains shown, under 12 another capability was refused beside it";
 
@@ -61,9 +64,13 @@ pub fn command(seed: u64, requests: u64, inputs: u64) -> ExitCode {
                 "seed {seed}: {requests} requests, each lent and by value; {inputs} images read;"
             );
             println!(
-                "{inputs} imports; {inputs} inputs of confine; the other calls after each {BETWEEN_SWEEPS} requests"
+                "{inputs} imports; {inputs} inputs of confine; after each {BETWEEN_SWEEPS} requests the other calls,"
             );
-            println!("{UNLISTED}\n\n{counts}\nno difference");
+            println!(
+                "and a request of each of the {} kinds of empty copies, which is counted too",
+                EmptyKind::ALL.len()
+            );
+            println!("{NOTE}\n\n{counts}\nno difference");
             ExitCode::SUCCESS
         }
         Err(found) => {
@@ -90,12 +97,22 @@ pub fn compare_requests(
         };
         course.advance(&mut rng);
         let ask = draw::draw(&mut rng, &course.twin.model);
-        let number = compare_step(calls, &mut course.twin, &ask).map_err(found)?;
-        counts.add(line_of(&ask), number);
+        one_step(calls, &mut course.twin, &ask, counts).map_err(found)?;
         if k % BETWEEN_SWEEPS == 0 {
             progress.at(k);
             sweep(calls, &mut rng, &course.twin.model, counts).map_err(found)?;
         }
+    }
+    Ok(())
+}
+
+/// Compares and counts one step.
+fn one_step(calls: &impl Calls, twin: &mut Twin, ask: &Ask, counts: &mut Counts) -> Compared<()> {
+    let before = twin.model.clone();
+    let number = compare_step(calls, twin, ask)?;
+    counts.add(line_of(ask), number);
+    if let (0, Some(request)) = (number, &ask.request) {
+        counts.add_empty(&before, request);
     }
     Ok(())
 }

@@ -1,16 +1,20 @@
-//! All calls but the step, on the table as it is and on tables and imports that are aimed at each number.
+//! All calls but the step, on the table as it is and on tables and imports that are aimed at each number; and
+//! steps of each kind of empty copies.
 
 use yavrinks_model::confinement::Entry;
 use yavrinks_model::table::Table;
+use yavrinks_tools::empty_kinds::EmptyKind;
 use yavrinks_tools::generate::{born_non_members, confinement_case, damaged_table};
-use yavrinks_tools::generate::{import_case, shown_case, ConfinementCase, Damage};
+use yavrinks_tools::generate::{empty_copy_case, import_case, shown_case, ConfinementCase, Damage};
 use yavrinks_tools::generate::{CONFINEMENT_NUMBERS, IMPORT_NUMBERS, SHOWN_NUMBERS};
 use yavrinks_tools::rng::Rng;
 
 use super::counts::{Counts, Line};
 use super::course::put_anything;
-use super::draw::any_bytes;
+use super::draw::{any_bytes, ask};
 use super::facts::Compared;
+use super::one_step;
+use super::steps::Twin;
 use super::unlisted::{count_test, Test};
 use super::weak::{weak_case, Beside};
 use super::wholes::{compare_access, compare_chain, compare_import, compare_sound};
@@ -18,7 +22,7 @@ use super::wholes::{compare_test, compare_write};
 use crate::archive::Calls;
 use crate::samples::list_bytes;
 
-/// The calls on a whole table: the one given, and others that are aimed at each number.
+/// The calls on a whole table: the one given, and others that are aimed at each number. Then the steps.
 pub fn sweep(
     calls: &impl Calls,
     rng: &mut Rng,
@@ -46,7 +50,22 @@ pub fn sweep(
     // Generators of their own, since nothing else hangs on what follows.
     let bits = rng.clone().bits();
     compare_imports(calls, &mut Rng::new(bits), counts)?;
-    compare_weak(calls, &mut Rng::new(!bits), table, counts)
+    compare_weak(calls, &mut Rng::new(!bits), table, counts)?;
+    compare_empty(calls, &mut Rng::new(bits.rotate_left(32)), counts)
+}
+
+/// A request of each kind of empty copies, on a table of its own.
+fn compare_empty(calls: &impl Calls, rng: &mut Rng, counts: &mut Counts) -> Compared<()> {
+    for kind in EmptyKind::ALL {
+        let case = empty_copy_case(rng, kind);
+        one_step(
+            calls,
+            &mut Twin::new(case.table),
+            &ask(case.request),
+            counts,
+        )?;
+    }
+    Ok(())
 }
 
 /// An import for each number.

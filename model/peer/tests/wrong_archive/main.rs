@@ -1,11 +1,13 @@
 //! An archive with one thing wrong is found out by the comparison, and the linked one is not.
 
+mod empty;
 mod weak;
 
 use captable::raw;
 use yavrinks_peer::archive::{Archive, Calls};
 use yavrinks_peer::differential::{compare_inputs, compare_requests, Counts, Difference, Line};
 use yavrinks_peer::samples::mended;
+use yavrinks_tools::empty_kinds::EmptyKind;
 use yavrinks_tools::generate::{
     CONFINEMENT_NUMBERS, CONFINE_NUMBERS, IMAGE_NUMBERS, IMPORT_NUMBERS, SHOWN_NUMBERS,
 };
@@ -85,6 +87,18 @@ fn unlisted_wk_is_met_with_every_number_from_12_on() {
             assert!(met >= least, "{line:?}, {number}: {met}\n{counts}");
             assert!(met <= counts.of(line, number), "{line:?}, {number}");
         }
+    }
+}
+
+/// Requests with empty copies are among them, of every kind: 40 of each are made after 512 requests at a time, and
+/// others come in the run.
+#[test]
+fn every_kind_of_empty_copies_is_met() {
+    let mut counts = Counts::default();
+    compare_requests(&Archive, 1, REQUESTS, &mut counts).expect("no difference");
+    for kind in EmptyKind::ALL {
+        let met = counts.of_empty(kind);
+        assert!(met >= 45, "{kind:?}: {met}\n{counts}");
     }
 }
 

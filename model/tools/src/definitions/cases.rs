@@ -1,5 +1,5 @@
 //! The cases: what the definitions are asked, and what the model answers.
-//! Every expected value is computed here, by the model; only the shared tests come with their own.
+//! Every expected value is computed here, by the model; only the shared tests and steps come with their own.
 
 use crate::generate::{ConfinementCase, ShownCase};
 use crate::rows::rows;
@@ -9,7 +9,7 @@ use yavrinks_model::confinement::{confinement_test, passes, Entry, MAX_ENTRIES};
 use yavrinks_model::image::{read, write};
 use yavrinks_model::refusal::Refusal;
 use yavrinks_model::runs::{clean_at_start, clean_part, run, CleanPart};
-use yavrinks_model::step::{step, Code, Request};
+use yavrinks_model::step::{landed, step, Code, Request};
 use yavrinks_model::table::{Capability, Table};
 use yavrinks_model::take_grant::import;
 use yavrinks_model::wire;
@@ -39,6 +39,11 @@ pub enum Question {
     Step {
         table: Table,
         request: Request,
+    },
+    /// What a slot holds after each of some copies to it.
+    Landing {
+        held: Capability,
+        copies: Vec<Capability>,
     },
     Run {
         table: Table,
@@ -83,6 +88,8 @@ pub enum Answer {
     /// The clean objects at the start, and what they have of the run.
     Clean(u64, CleanPart),
     Table(u8, Table),
+    /// What the slot holds after each copy.
+    Landing(Vec<Capability>),
     /// The replies of a run and its last table.
     Run(Vec<u8>, Table),
     Bound(u8, u64),
@@ -116,6 +123,7 @@ impl Case {
 
 const CLEAN: &str = "clean along a run";
 const UNKNOWN: &str = "unknown code";
+const LANDING: &str = "where a copy lands";
 const RUN: &str = "run, last reply";
 const TEST: &str = "confinement test";
 const PASSING: &str = "rights of a member";
@@ -132,9 +140,11 @@ const LIST_BYTES: &str = "list as bytes";
 pub fn subjects() -> Vec<String> {
     let mut subjects = vec![CLEAN.to_string()];
     subjects.extend(Code::ALL.map(Code::label));
-    let wholes = [UNKNOWN, RUN, TEST, PASSING, CHAIN, LEAST_CHAIN, ACCESS];
+    let steps = [UNKNOWN, LANDING, RUN];
+    let wholes = [TEST, PASSING, CHAIN, LEAST_CHAIN, ACCESS];
     let bytes = [READ, WRITTEN, IMPORT, REQUEST_BYTES, LIST_BYTES];
-    subjects.extend(wholes.into_iter().chain(bytes).map(String::from));
+    let others = steps.into_iter().chain(wholes).chain(bytes);
+    subjects.extend(others.map(String::from));
     subjects
 }
 
@@ -146,6 +156,9 @@ impl Question {
                 start, requests, ..
             } => clean_answer(start, requests),
             Question::Step { table, request } => table_answer(step(table, request)),
+            Question::Landing { held, copies } => {
+                Answer::Landing(copies.iter().map(|&copy| landed(*held, copy)).collect())
+            }
             Question::Run { table, requests } => {
                 let (replies, after) = run(table, requests);
                 Answer::Run(replies, after)
@@ -186,6 +199,7 @@ impl Question {
                 Some(code) => return code.label(),
                 None => UNKNOWN,
             },
+            Question::Landing { .. } => LANDING,
             Question::Run { .. } => RUN,
             Question::Test { .. } => TEST,
             Question::Passing { .. } => PASSING,
@@ -215,7 +229,8 @@ impl Answer {
             Answer::Ask(Request::Unknown { .. }) => 2,
             Answer::Entries(list) if list.len() > MAX_ENTRIES => 11,
             Answer::Passing(all) if all.contains(&false) => Refusal::RightNotListed.number(),
-            Answer::Clean(..) | Answer::Ask(_) | Answer::Entries(_) | Answer::Passing(_) => 0,
+            Answer::Clean(..) | Answer::Landing(_) => 0,
+            Answer::Ask(_) | Answer::Entries(_) | Answer::Passing(_) => 0,
         }
     }
 }

@@ -3,14 +3,16 @@
 
 use super::cases::{Answer, Case, Question};
 use super::clean::clean_run;
+use super::landing::{landing, LANDINGS};
 use super::passing::{passing, PASSING_LISTS};
+use crate::empty_kinds::EmptyKind;
 use crate::generate::{
-    any_damage, any_sound_table, can_meet, confinement_case, full_import, image_case, import_case,
-    layered_case, likely_request, shown_case, sound_table, step_case, Shape, StepCase,
-    CONFINEMENT_NUMBERS, IMAGE_NUMBERS, IMPORT_NUMBERS, SHOWN_NUMBERS,
+    any_damage, any_sound_table, can_meet, confinement_case, empty_copy_case, full_import,
+    image_case, import_case, layered_case, likely_request, shown_case, sound_table, step_case,
+    Shape, StepCase, CONFINEMENT_NUMBERS, IMAGE_NUMBERS, IMPORT_NUMBERS, SHOWN_NUMBERS,
 };
 use crate::rng::Rng;
-use crate::shared::{shared_imports, shared_tests, SharedTest};
+use crate::shared::{shared_imports, shared_steps, shared_tests, SharedStep, SharedTest};
 use yavrinks_model::image::IMAGE_LENGTH;
 use yavrinks_model::step::{step, step_in_place, Code, Request};
 use yavrinks_model::table::{Capability, ALL_RIGHTS, RD, TX, WK};
@@ -28,6 +30,8 @@ pub struct Counts {
     pub imports: usize,
     /// How many of the shared tests are asked, from the first on.
     pub tests: usize,
+    /// How many of the shared steps are asked, from the first on.
+    pub steps: usize,
 }
 
 impl Default for Counts {
@@ -37,17 +41,21 @@ impl Default for Counts {
             rounds: 1,
             imports: 0,
             tests: 0,
+            steps: 0,
         }
     }
 }
 
-/// All cases of a run: the questions with the model's answers, then the shared tests with their own.
+/// All cases of a run: the questions with the model's answers, then the shared tests and the shared steps
+/// with their own.
 pub fn cases(seed: u64, counts: &Counts) -> Vec<Case> {
-    let shared = shared_tests().into_iter().take(counts.tests);
+    let tests = shared_tests().into_iter().take(counts.tests);
+    let steps = shared_steps().into_iter().take(counts.steps);
     let questions = questions(seed, counts).into_iter();
     questions
         .map(Case::new)
-        .chain(shared.map(stated_test))
+        .chain(tests.map(stated_test))
+        .chain(steps.map(stated_step))
         .collect()
 }
 
@@ -60,13 +68,22 @@ fn stated_test(shared: SharedTest) -> Case {
     }
 }
 
+/// A shared step, with the answer that stands in its file.
+fn stated_step(shared: SharedStep) -> Case {
+    let (number, after) = shared.answer;
+    Case {
+        question: stated(shared.step),
+        answer: Answer::Table(number, after),
+    }
+}
+
 /// Draws the question of a turn: the first, the second and so on of its kind.
 type Draw = fn(&mut Rng, usize) -> Question;
 
 /// The questions of a run. Each kind has a generator of its own, so that the number of one kind
 /// does not change the questions of another.
 pub fn questions(seed: u64, counts: &Counts) -> Vec<Question> {
-    let in_a_round: [(usize, Draw); 13] = [
+    let in_a_round: [(usize, Draw); 15] = [
         (aims().len(), aimed_step),
         (3, telling_step),
         (4, run),
@@ -80,6 +97,8 @@ pub fn questions(seed: u64, counts: &Counts) -> Vec<Question> {
         (WIDTHS.len(), least_chain),
         (12, import),
         (PASSING_LISTS, passing),
+        (EmptyKind::ALL.len(), empty_copy),
+        (LANDINGS, landing),
     ];
     let rounds = in_a_round.map(|(count, draw)| (counts.rounds * count, draw));
     let mut seeds = Rng::new(seed);
@@ -179,6 +198,14 @@ fn long_list_step(rng: &mut Rng) -> StepCase {
         list.resize_with(5, || (rng.byte(0, 7), rng.byte(0, 7)));
     }
     case
+}
+
+/// Every kind of empty copy in turn.
+fn empty_copy(rng: &mut Rng, turn: usize) -> Question {
+    stated(empty_copy_case(
+        rng,
+        EmptyKind::ALL[turn % EmptyKind::ALL.len()],
+    ))
 }
 
 /// A run of some requests, most of which are done; the first is empty.

@@ -24,6 +24,7 @@ use Rattle.table.specs.declared.Table.{Table}
 use Rattle.requests.specs.declared.Pair.{Pair}
 use Rattle.requests.specs.Asks.{Ask, read, write, fetch, store, revoke, send, allocate, destroy, unknown}
 use Rattle.refusals.specs.Replies.{number}
+use Rattle.copies.specs.Copies.{landed}
 use Rattle.steps.specs.declared.Stepped.{Stepped}
 use Rattle.steps.specs.Steps.{stepOf, runTable, runReplies}
 use Rattle.access.specs.declared.Access.{Access}

@@ -8,6 +8,7 @@ pub mod clean;
 pub mod crates;
 pub mod draw;
 mod heads;
+mod landing;
 mod options;
 mod passing;
 pub mod scratch;

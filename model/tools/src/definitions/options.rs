@@ -41,6 +41,7 @@ impl Options {
                 "--rounds" => options.counts.rounds = number(name, value)?,
                 "--imports" => options.counts.imports = number(name, value)?,
                 "--tests" => options.counts.tests = number(name, value)?,
+                "--steps" => options.counts.steps = number(name, value)?,
                 "--keep" => options.keep = Some(value.into()),
                 "--root" => options.root = value.into(),
                 _ => return Err(format!("unknown option {name}")),

@@ -68,6 +68,12 @@ impl Writer<'_> {
                 let table = self.table("table", table);
                 format!("stepped (stepOf {table} ({}))", terms::ask(request))
             }
+            Question::Landing { held, copies } => {
+                let held = self.value("held", "Capability", &terms::capability(*held));
+                let copies = terms::capabilities(copies.iter().copied());
+                let copies = self.value("copies", "List Capability", &copies);
+                format!("map (landed {held}) {copies}")
+            }
             Question::Run { table, requests } => {
                 let table = self.table("table", table);
                 let asks = self.asks("requests", requests);
@@ -155,6 +161,10 @@ impl Writer<'_> {
             Answer::Table(number, table) => {
                 let table = self.table_after(question, table);
                 ("ℕ × Table", format!("({number}, {table})"))
+            }
+            Answer::Landing(slots) => {
+                let slots = terms::capabilities(slots.iter().copied());
+                ("List Capability", format!("({slots})"))
             }
             Answer::Run(replies, table) => {
                 let replies = terms::bytes(replies);

@@ -2,16 +2,18 @@
 //! accept with any answer checks nothing.
 
 use super::cases::{Answer, Case, Part, Question};
+use crate::copies::landed_by;
+use crate::empty_kinds::empty_kinds;
 use crate::rng::Rng;
 use std::mem::discriminant;
 use yavrinks_model::runs::CleanPart;
 use yavrinks_model::step::Request;
-use yavrinks_model::table::{Table, ACTIVE, ALIVE};
+use yavrinks_model::table::{Capability, Table, ACTIVE, ALIVE};
 
 /// For every kind of question, a case with a wrong number and one with a right number and wrong
 /// content, as far as the given cases have such; of clean objects, one for each part that is asked; of
-/// imports also one that is refused and yet brings something in; of capabilities that pass, one for each
-/// that is asked about.
+/// imports also one that is refused and yet brings something in; of capabilities that pass and of copies that
+/// land, one for each that is asked about; of steps also some where an empty copy empties.
 pub fn wrong_cases(rng: &mut Rng, cases: &[Case]) -> Vec<Case> {
     let mut wrong = Vec::new();
     let mut seen = Vec::new();
@@ -20,6 +22,32 @@ pub fn wrong_cases(rng: &mut Rng, cases: &[Case]) -> Vec<Case> {
         if !seen.contains(&kind) && !is_silent(&case.answer) {
             seen.push(kind);
             wrong.extend(made_wrong(rng, case));
+        }
+    }
+    wrong.extend(emptied(cases));
+    wrong
+}
+
+/// Steps with the table that they left before 2.4, when an empty copy emptied its destination: one for each
+/// kind of empty copy where that differs.
+fn emptied(cases: &[Case]) -> Vec<Case> {
+    let mut wrong = Vec::new();
+    let mut seen = Vec::new();
+    for case in cases {
+        let Question::Step { table, request } = &case.question else {
+            continue;
+        };
+        let Answer::Table(0, after) = &case.answer else {
+            continue;
+        };
+        let mut before_2_4 = after.clone();
+        if let Some((holder, slots)) = landed_by(table, request, |_, copied| copied.copy()) {
+            before_2_4.record_mut(holder).slots = slots;
+        }
+        let kinds = empty_kinds(table, request);
+        if before_2_4 != *after && kinds.iter().any(|kind| !seen.contains(kind)) {
+            seen.extend(kinds);
+            wrong.push(with_answer(case, Answer::Table(0, before_2_4)));
         }
     }
     wrong
@@ -41,6 +69,9 @@ fn made_wrong(rng: &mut Rng, case: &Case) -> Vec<Case> {
         Answer::Passing(truths) => (0..truths.len())
             .map(|place| with_answer(case, other_truth(truths, place)))
             .collect(),
+        Answer::Landing(slots) => (0..slots.len())
+            .map(|place| with_answer(case, other_landing(&case.question, slots, place)))
+            .collect(),
         answer if answer.number() == 0 => vec![with_answer(case, other_content(rng, answer))],
         answer => {
             let mut wrong = vec![with_answer(case, other_number(answer))];
@@ -57,6 +88,16 @@ fn other_truth(truths: &[bool], place: usize) -> Answer {
     let mut truths = truths.to_vec();
     truths[place] = !truths[place];
     Answer::Passing(truths)
+}
+
+/// One of the slots with the other thing that could be in it: what it held, or the copy.
+fn other_landing(question: &Question, slots: &[Capability], place: usize) -> Answer {
+    let mut slots = slots.to_vec();
+    if let Question::Landing { held, copies } = question {
+        let taken = slots[place];
+        slots[place] = if taken == *held { copies[place] } else { *held };
+    }
+    Answer::Landing(slots)
 }
 
 /// A refusal that leaves the first entity in the table.
@@ -90,6 +131,7 @@ fn other_number(answer: &Answer) -> Answer {
         Answer::Ask(request) => *request = Request::Read { actor: 0, t: 0 },
         Answer::Entries(list) => list.push((0, 0)),
         Answer::Passing(truths) => truths.push(true),
+        Answer::Landing(slots) => slots.push(Capability::EMPTY),
         Answer::Clean(start, _) => *start ^= 1,
     }
     answer
@@ -118,6 +160,7 @@ fn other_content(rng: &mut Rng, answer: &Answer) -> Answer {
         }
         Answer::Entries(list) => list.push((0, 0)),
         Answer::Passing(truths) => truths.push(true),
+        Answer::Landing(slots) => slots.push(Capability::EMPTY),
         Answer::Clean(start, _) => *start ^= 1,
     }
     answer

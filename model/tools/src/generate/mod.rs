@@ -1,8 +1,10 @@
-//! Random tables, requests, tests, questions for a chain, images, inputs and imports, each aimed at a
-//! chosen outcome.
+//! Random tables, requests, empty copies, tests, questions for a chain, images, inputs and imports, each
+//! aimed at a chosen outcome.
 //! All of it follows from the seed of the generator that is lent to it.
 
 mod confinement;
+mod empty_copies;
+mod empty_requests;
 mod images;
 mod imports;
 mod requests;
@@ -12,6 +14,8 @@ mod tables;
 pub use confinement::{
     born_non_members, confinement_case, unlisted_wk, ConfinementCase, CONFINEMENT_NUMBERS,
 };
+pub use empty_copies::empty_copy_case;
+pub use empty_requests::turn_to_empty;
 pub use images::{
     confine_input, encode_input, image_case, printed_number, CONFINE_NUMBERS, IMAGE_NUMBERS,
     INPUT_COUNT_AT,

@@ -1,6 +1,7 @@
 //! Random requests: some that a table is likely to grant, and cases aimed at each reply.
 //! An aimed case may also meet later checks, so that the order of the checks is tried.
 
+use super::empty_requests::turn_to_empty;
 use super::tables::{any_damage, any_word, numbers_where, sound_table, Shape};
 use crate::rng::Rng;
 use yavrinks_model::set;
@@ -8,7 +9,7 @@ use yavrinks_model::step::{Code, Fields, Pair, Request, MAX_PAIRS, NO_REPLY};
 use yavrinks_model::table::{Capability, Record, Table, ACTIVE, ALL_RIGHTS, PASSIVE};
 
 /// A table and a request for it.
-#[derive(Clone, Debug)]
+#[derive(Clone, Debug, PartialEq, Eq)]
 pub struct StepCase {
     pub table: Table,
     pub request: Request,
@@ -314,15 +315,24 @@ fn granted_request(rng: &mut Rng, table: &Table, actor: u8) -> Request {
         let own: Vec<u8> = set::numbers(record.stock).collect();
         if let Some(n) = rng.pick(&own) {
             let part = random_part(rng, record.stock & !set::single(n));
-            return allocate(rng, actor, n, part);
+            let request = allocate(rng, actor, n, part);
+            return sometimes_empty(rng, table, request);
         }
     }
     let mut request = valid_request(rng, code, actor);
     for _ in 0..20 {
         if slot_serves(table, &request) {
-            break;
+            return sometimes_empty(rng, table, request);
         }
         request = valid_request(rng, code, actor);
+    }
+    request
+}
+
+/// The request, one in four turned towards empty copies.
+fn sometimes_empty(rng: &mut Rng, table: &Table, mut request: Request) -> Request {
+    if rng.percent(25) {
+        turn_to_empty(rng, table, &mut request);
     }
     request
 }

@@ -7,6 +7,7 @@ use yavrinks_model::step::Code;
 /// The counts of a trial, and the number of differences.
 pub fn trial_text(trial: &Trial) -> String {
     let tally = &trial.tally;
+    let (clean, others) = (tally.empty_by_clean, tally.empty_by_others);
     let mut text = codes_text(tally) + "\n" + &actors_text(tally) + "\n";
     let rows = [
         ("pairs of runs", trial.pairs),
@@ -17,11 +18,19 @@ pub fn trial_text(trial: &Trial) -> String {
         ("  with unlisted wk in one table", trial.unlisted_in_one),
         ("  with unlisted wk in both tables", trial.unlisted_in_both),
         ("  with it used in one run only", trial.used_in_one),
+        ("  with empty copies in one run only", trial.empty_in_one),
         ("clean objects at the start", trial.clean_at_start),
         ("objects made clean on the way", trial.made_clean),
         ("done by others to clean objects", tally.of_clean_by_others),
         ("  read through unlisted wk", tally.unlisted_reads),
         ("  fetched through unlisted wk", tally.unlisted_fetches),
+        ("empty copies by clean actors", clean.all),
+        ("  on a filled slot", clean.on_filled),
+        ("  weakened to nothing", clean.weakened_to_nothing),
+        ("empty copies by others", others.all),
+        ("  on a filled slot", others.on_filled),
+        ("  weakened to nothing", others.weakened_to_nothing),
+        ("  of a clean object's slot", others.of_clean),
     ];
     for (name, count) in rows {
         text.push_str(&format!("{name:<36}{count:>12}\n"));

@@ -1,7 +1,8 @@
 //! Random requests of clean actors and of others. Most can be done: they use slots that are
-//! filled, rights that are there and numbers in stock. The rest is arbitrary.
+//! filled, rights that are there and numbers in stock. Some of these are turned towards empty copies. The
+//! rest is arbitrary.
 
-use crate::generate::{actor_mut, any_request};
+use crate::generate::{actor_mut, any_request, turn_to_empty};
 use crate::rng::Rng;
 use yavrinks_model::set;
 use yavrinks_model::step::{Code, Fields, Pair, Request, MAX_PAIRS, NO_REPLY};
@@ -57,7 +58,10 @@ fn likely_request(rng: &mut Rng, table: &Table, actor: u8, clean: u64) -> Reques
         } else {
             through_slot(rng, table, actor, code, clean)
         };
-        if let Some(request) = found {
+        if let Some(mut request) = found {
+            if rng.percent(20) {
+                turn_to_empty(rng, table, &mut request);
+            }
             return request;
         }
     }

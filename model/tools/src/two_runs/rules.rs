@@ -12,6 +12,28 @@ pub enum Weakening {
     KeepsRd,
     /// What was weakened once has rd again after the second time.
     HandsRdBack,
+    /// What has neither rd nor wk stays as it is, so that no copy comes out empty.
+    NeverToNothing,
+}
+
+/// What an empty copy leaves in the destination, in fetch, store, send and allocate.
+#[derive(Clone, Copy, Debug, PartialEq, Eq)]
+pub enum Empty {
+    /// As 2.4 amends document 01: what it held.
+    WhatItHeld,
+    /// What the object that is copied from has in the slot of that number.
+    WhatTheSourceHas,
+    /// What it held, if no other object has a capability over the same target; else nothing.
+    WhatNobodyElseHas,
+}
+
+/// What a destroyed object keeps.
+#[derive(Clone, Copy, Debug, PartialEq, Eq)]
+pub enum Destroyed {
+    /// As in document 01: its kind.
+    Kind,
+    /// Its slots too.
+    KindAndSlots,
 }
 
 /// Which numbers an allocate can make.
@@ -74,6 +96,8 @@ pub enum StandIn {
 #[derive(Clone, Copy, Debug, PartialEq, Eq)]
 pub struct Rules {
     pub weakening: Weakening,
+    pub empty: Empty,
+    pub destroyed: Destroyed,
     pub makes: Makes,
     pub access: Access,
     pub unlisted: Unlisted,
@@ -85,6 +109,8 @@ impl Rules {
     /// The rules of document 01, as amended.
     pub const DOCUMENT: Rules = Rules {
         weakening: Weakening::ToWk,
+        empty: Empty::WhatItHeld,
+        destroyed: Destroyed::Kind,
         makes: Makes::OwnStock,
         access: Access::AsWritten,
         unlisted: Unlisted::WkAlone,
@@ -104,7 +130,7 @@ pub struct Broken {
 }
 
 /// The broken models. Each of them must be caught.
-pub const BROKEN: [Broken; 13] = [
+pub const BROKEN: [Broken; 17] = [
     Broken {
         name: "fetch-not-weakened",
         says: "a fetch through wk copies all rights",
@@ -126,6 +152,39 @@ pub const BROKEN: [Broken; 13] = [
         says: "a weakened capability, weakened again, has rd",
         rules: Rules {
             weakening: Weakening::HandsRdBack,
+            ..Rules::DOCUMENT
+        },
+    },
+    Broken {
+        name: "never-weakened-to-nothing",
+        says: "a fetch through wk copies wr and tx where there is neither rd nor wk",
+        rules: Rules {
+            weakening: Weakening::NeverToNothing,
+            ..Rules::DOCUMENT
+        },
+    },
+    Broken {
+        name: "empty-keeps-sources-slot",
+        says: "an empty copy brings the slot of that number from the object copied from",
+        rules: Rules {
+            empty: Empty::WhatTheSourceHas,
+            ..Rules::DOCUMENT
+        },
+    },
+    Broken {
+        name: "empty-keeps-unshared",
+        says:
+            "an empty copy empties the slot if another object also has a capability over its target",
+        rules: Rules {
+            empty: Empty::WhatNobodyElseHas,
+            ..Rules::DOCUMENT
+        },
+    },
+    Broken {
+        name: "destroy-keeps-slots",
+        says: "a destroyed object keeps its slots, as if revoke alone emptied any",
+        rules: Rules {
+            destroyed: Destroyed::KindAndSlots,
             ..Rules::DOCUMENT
         },
     },

@@ -79,9 +79,13 @@ impl Run {
     pub fn take(&mut self, rules: &Rules, request: &Request) -> u8 {
         let actor = self.actor(request.actor());
         let used = self.used_over_clean(request);
+        let before = self.table.clone();
         let reply = rules.step_in_place(&mut self.table, request);
         self.length += 1;
         self.tally.count(actor, request.code(), reply == 0);
+        if reply == 0 {
+            self.tally.count_empty(actor, &before, request, self.clean);
+        }
         if let (Some(used), 0) = (used, reply) {
             self.count_over_clean(actor, request, used);
         }

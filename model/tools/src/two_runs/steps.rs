@@ -1,7 +1,8 @@
-//! One request under given rules. Fetch and allocate are the model's own but for the place that
-//! the rules can break; the other six are the model's.
+//! One request under given rules. Where a copy lands, which numbers can be made and what a destroyed object
+//! keeps is worked here, since the rules can break it; all else is the model's.
 
-use super::rules::{Makes, Rules, Weakening};
+use super::rules::{Destroyed, Empty, Makes, Rules, Weakening};
+use crate::copies::{landed_by, Copied};
 use yavrinks_model::set;
 use yavrinks_model::step::{self, weaken, Request};
 use yavrinks_model::table::{Capability, Table, OBJECTS, RD, UNBORN, WK};
@@ -15,10 +16,31 @@ impl Weakening {
             Weakening::KeepsRd => found.rights & RD,
             Weakening::HandsRdBack if again => RD,
             Weakening::HandsRdBack => 0,
+            Weakening::NeverToNothing if weaken(found).is_empty() => return found,
+            Weakening::NeverToNothing => 0,
         };
         let weakened = weaken(found);
         Capability::new(weakened.target, weakened.rights | kept)
     }
+}
+
+impl Empty {
+    /// What a slot holds after an empty copy.
+    fn leaves(self, before: &Table, held: Capability, copied: &Copied) -> Capability {
+        match self {
+            Empty::WhatItHeld => held,
+            Empty::WhatTheSourceHas => before.record(copied.source).slots[usize::from(copied.slot)],
+            Empty::WhatNobodyElseHas if is_shared(before, copied.holder, held) => Capability::EMPTY,
+            Empty::WhatNobodyElseHas => held,
+        }
+    }
+}
+
+/// Whether an object other than the holder has a capability over the same target.
+fn is_shared(table: &Table, holder: u8, held: Capability) -> bool {
+    let others = (0..OBJECTS as u8).filter(|&n| n != holder);
+    let mut capabilities = others.flat_map(|n| table.record(n).capabilities());
+    capabilities.any(|other| other.target == held.target)
 }
 
 impl Makes {
@@ -36,39 +58,47 @@ impl Makes {
 impl Rules {
     /// One request on a table lent to be changed, with its reply.
     pub fn step_in_place(&self, table: &mut Table, request: &Request) -> u8 {
-        match request {
-            Request::Fetch { .. } => self.fetch(table, request),
-            Request::Allocate { .. } => self.allocate(table, request),
-            _ => step::step_in_place(table, request),
-        }
-    }
-
-    /// The model's fetch, with the weakening of these rules.
-    fn fetch(&self, table: &mut Table, request: &Request) -> u8 {
-        let before = table.clone();
-        let reply = step::step_in_place(table, request);
-        if let (0, Request::Fetch { actor, t, i, j }) = (reply, request) {
-            let used = before.record(*actor).slots[usize::from(*t)];
-            if !used.has_any(RD) {
-                let found = before.record(used.target).slots[usize::from(*i)];
-                table.record_mut(*actor).slots[usize::from(*j)] = self.weakening.of(found);
-            }
-        }
-        reply
-    }
-
-    /// The model's allocate, after n was moved into the actor's stock if these rules reach it.
-    /// So the table stays sound, and nothing but the broken rule shows.
-    fn allocate(&self, table: &mut Table, request: &Request) -> u8 {
         let before = table.clone();
         if let Request::Allocate { actor, n, .. } = request {
+            // The model's allocate then makes n if these rules reach it. So the table stays sound, and
+            // nothing but the broken rule shows.
             self.move_into_stock(table, *actor, *n);
         }
         let reply = step::step_in_place(table, request);
-        if reply != 0 {
+        if reply == 0 {
+            self.copy_anew(&before, table, request);
+            self.keep_slots(&before, table, request);
+        } else {
             *table = before;
         }
         reply
+    }
+
+    /// Lands the copies of a request that is done by these rules.
+    fn copy_anew(&self, before: &Table, table: &mut Table, request: &Request) {
+        let rule = |held, copied: &Copied| {
+            let copy = match copied.weakened {
+                true => self.weakening.of(copied.found),
+                false => copied.found,
+            };
+            if copy.is_empty() {
+                self.empty.leaves(before, held, copied)
+            } else {
+                copy
+            }
+        };
+        if let Some((holder, slots)) = landed_by(before, request, rule) {
+            table.record_mut(holder).slots = slots;
+        }
+    }
+
+    /// Gives a destroyed object back what it keeps by these rules.
+    fn keep_slots(&self, before: &Table, table: &mut Table, request: &Request) {
+        if let (Destroyed::KindAndSlots, Request::Destroy { actor, t }) = (self.destroyed, request)
+        {
+            let target = before.record(*actor).slots[usize::from(*t)].target;
+            table.record_mut(target).slots = before.record(target).slots;
+        }
     }
 
     fn move_into_stock(&self, table: &mut Table, actor: u8, n: u8) {

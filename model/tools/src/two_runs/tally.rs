@@ -1,6 +1,9 @@
 //! Counts of what a trial did, so that a reader sees whether the claim had anything to bite on.
 
-use yavrinks_model::step::Code;
+use crate::copies::copies;
+use yavrinks_model::set;
+use yavrinks_model::step::{Code, Request};
+use yavrinks_model::table::Table;
 
 /// Who makes a request, at the moment when it is made.
 #[derive(Clone, Copy, Debug, PartialEq, Eq)]
@@ -45,6 +48,39 @@ impl Count {
     }
 }
 
+/// Copies that came out empty in requests that were done.
+#[derive(Clone, Copy, Debug, Default, PartialEq, Eq)]
+pub struct EmptyCopies {
+    pub all: u64,
+    /// Those to a slot that was filled before the request.
+    pub on_filled: u64,
+    pub weakened_to_nothing: u64,
+    /// Those from a slot of a clean object.
+    pub of_clean: u64,
+}
+
+impl EmptyCopies {
+    fn count(&mut self, before: &Table, request: &Request, clean: u64) {
+        for copied in copies(before, request) {
+            let slot = before.record(copied.holder).slots[usize::from(copied.slot)];
+            let one = u64::from(copied.is_empty());
+            self.add(EmptyCopies {
+                all: one,
+                on_filled: one * u64::from(!slot.is_empty()),
+                weakened_to_nothing: u64::from(copied.is_weakened_to_nothing()),
+                of_clean: one * u64::from(set::contains(clean, copied.source)),
+            });
+        }
+    }
+
+    fn add(&mut self, more: EmptyCopies) {
+        self.all += more.all;
+        self.on_filled += more.on_filled;
+        self.weakened_to_nothing += more.weakened_to_nothing;
+        self.of_clean += more.of_clean;
+    }
+}
+
 /// Requests by actor and code. The codes are 1 to 8; at 0 stand all others.
 #[derive(Clone, Debug, Default, PartialEq, Eq)]
 pub struct Tally {
@@ -54,6 +90,8 @@ pub struct Tally {
     /// Among these, what members got done through wk alone that they held unlisted at the start.
     pub unlisted_reads: u64,
     pub unlisted_fetches: u64,
+    pub empty_by_clean: EmptyCopies,
+    pub empty_by_others: EmptyCopies,
 }
 
 fn row_of(code: u8) -> usize {
@@ -69,11 +107,21 @@ impl Tally {
         });
     }
 
+    /// Counts the empty copies of a request that was done on this table.
+    pub fn count_empty(&mut self, actor: Actor, before: &Table, request: &Request, clean: u64) {
+        match actor {
+            Actor::Clean => self.empty_by_clean.count(before, request, clean),
+            _ => self.empty_by_others.count(before, request, clean),
+        }
+    }
+
     /// Adds the counts of another tally.
     pub fn add(&mut self, other: &Tally) {
         self.of_clean_by_others += other.of_clean_by_others;
         self.unlisted_reads += other.unlisted_reads;
         self.unlisted_fetches += other.unlisted_fetches;
+        self.empty_by_clean.add(other.empty_by_clean);
+        self.empty_by_others.add(other.empty_by_others);
         let own = self.counts.iter_mut().flatten();
         for (count, more) in own.zip(other.counts.iter().flatten()) {
             count.add(*more);

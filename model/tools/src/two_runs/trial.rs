@@ -33,6 +33,8 @@ pub struct Trial {
     pub unlisted_in_both: u64,
     /// Pairs where they read or fetched through it in one of the runs and not in the other.
     pub used_in_one: u64,
+    /// Pairs where others made an empty copy in one of the runs and not in the other.
+    pub empty_in_one: u64,
     pub clean_at_start: u64,
     pub made_clean: u64,
     pub found: Option<Case>,
@@ -65,6 +67,7 @@ impl Trial {
         self.lengths_differ += u64::from(runs.first.length != runs.second.length);
         self.ends_differ += u64::from(runs.first.table != runs.second.table);
         self.count_unlisted(runs);
+        self.count_empty(runs);
         for n in set::numbers(runs.first.clean) {
             let at_start = drawn.start.first.is_born(n);
             self.clean_at_start += u64::from(at_start);
@@ -81,6 +84,12 @@ impl Trial {
         self.unlisted_in_both += u64::from(held[0] && held[1]);
         let used = both.map(|run| run.tally.used_unlisted());
         self.used_in_one += u64::from(used[0] != used[1]);
+    }
+
+    fn count_empty(&mut self, runs: &TwoRuns) {
+        let both = [&runs.first, &runs.second];
+        let some = both.map(|run| run.tally.empty_by_others.all != 0);
+        self.empty_in_one += u64::from(some[0] != some[1]);
     }
 }
 

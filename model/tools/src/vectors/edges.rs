@@ -12,9 +12,13 @@ const VALUES: [u8; 9] = [0, 1, 2, 7, 8, 9, 63, 64, 255];
 /// Values around the limit of a slot, for the pairs of a list.
 const PAIR_VALUES: [u8; 3] = [7, 8, 255];
 
+/// The seed of the chain. A test asks that each request is done three times, and not every seed gives that: since
+/// some requests are turned towards empty copies, only two reads are done with 0xED6E5, the seed before 2.4.
+const SEED: u64 = 0xED6E9;
+
 /// The chain. It starts with a table on which every request can be done.
 pub fn edges() -> Chain {
-    let mut rng = Rng::new(0xED6E5);
+    let mut rng = Rng::new(SEED);
     let shape = Shape {
         born: 16,
         dead_percent: 0,

@@ -31,11 +31,11 @@ pub struct WriteCase {
 pub fn image_cases() -> Vec<ImageCase> {
     let mut rng = Rng::new(0x1A6E5);
     let mut images = vec![encode(&Table::unborn()), encode(&Table::k())];
-    images.extend((0..118).map(|_| image_case(&mut rng, 0)));
+    images.extend((0..110).map(|_| image_case(&mut rng, 0)));
     for kind in Damage::ALL {
         images.extend((0..3).map(|_| encode(&damaged_table(&mut rng, kind))));
     }
-    images.extend((0..27).map(|_| image_case(&mut rng, 14)));
+    images.extend((0..19).map(|_| image_case(&mut rng, 14)));
     images.extend((0..15).map(|_| image_case(&mut rng, 15)));
     images.extend(cut_images(&mut rng));
     images.extend(changed_heads(&mut rng));

@@ -4,6 +4,7 @@
 mod chain;
 mod digest;
 mod edges;
+mod empty_copies;
 mod images;
 mod imports;
 mod layout;
@@ -20,6 +21,7 @@ use std::path::Path;
 use crate::progress::Progress;
 pub use chain::{chain, Chain};
 pub use edges::edges;
+pub use empty_copies::{counts_text, in_chain, in_steps};
 pub use images::{image_cases, write_cases, ImageCase, WriteCase};
 pub use imports::import_cases;
 pub use links::test_reach;

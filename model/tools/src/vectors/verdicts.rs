@@ -16,7 +16,7 @@ use yavrinks_model::table::{
 const LONG: [usize; 6] = [9, 10, 16, 100, 254, 255];
 
 /// How often each verdict is aimed at. Cases made by hand and shared ones add to all of them.
-const AIMS: [(u8, usize); 6] = [(0, 64), (1, 36), (10, 22), (11, 18), (12, 26), (13, 22)];
+const AIMS: [(u8, usize); 6] = [(0, 60), (1, 36), (10, 22), (11, 18), (12, 24), (13, 22)];
 
 /// Every verdict, the shared tests, lists of all lengths, the first and the last of numbers and slots, then
 /// wk in what members hold.

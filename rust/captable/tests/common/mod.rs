@@ -1,6 +1,7 @@
-//! Table K of document 01.
+//! Table K of document 01, and a step in both of its forms.
 #![allow(dead_code)] // each test is a program of its own and uses some of this
 
+use captable::raw::{captable_step, captable_step_by_value};
 use captable::{Capability, Set, Table, ACTIVE, ALIVE, RD, WK, WR};
 
 /// The set of some numbers.
@@ -31,4 +32,21 @@ pub fn k() -> Table {
     table.record_mut(5).stock = set(&[10, 11]);
     table.record_mut(4).stock = set(&[12]);
     table
+}
+
+/// What the bytes are answered, and the table after them: on a table that is lent and on one by value, which
+/// have to agree.
+#[track_caller]
+pub fn step_in_both_forms(before: &Table, request: &[u8]) -> (u8, Table) {
+    let mut lent = before.clone();
+    // SAFETY: the table and the bytes are the test's own.
+    let (number, outcome) = unsafe {
+        (
+            captable_step(lent.as_raw_mut(), request.as_ptr(), request.len()),
+            captable_step_by_value(*before.as_raw(), request.as_ptr(), request.len()),
+        )
+    };
+    assert_eq!(outcome.number, number);
+    assert_eq!(outcome.table, *lent.as_raw());
+    (number, lent)
 }

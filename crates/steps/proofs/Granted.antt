@@ -14,32 +14,31 @@ use Rattle.mask.proofs.Bits.{has-excluding, subset-at}
 use Rattle.table.specs.declared.Capability.{Capability}
 use Rattle.table.specs.declared.Record.{Record}
 use Rattle.table.specs.declared.Table.{Table}
-use Rattle.table.specs.Cells.{recordAt, slotAt, statusAt, isAlive, isActive, isEmpty}
+use Rattle.table.specs.Cells.{recordAt, slotAt, statusAt, stockAt, isAlive, isActive, isEmpty}
 use Rattle.table.specs.Soundness.{sound}
 use Rattle.table.proofs.Cells.{Sized, record-high}
 use Rattle.table.proofs.SoundFacts.{SlotFine, Sound}
 use Rattle.requests.specs.declared.Pair.{Pair}
 use Rattle.refusals.specs.declared.Need.{Need}
+use Rattle.refusals.specs.declared.Need.the-variants.{Write}
 use Rattle.refusals.specs.declared.Reply.{Reply}
-use Rattle.refusals.specs.declared.Reply.the-variants.{TableUnsound, FieldInvalid, ActorUnfit, SlotEmpty, TargetDead, RightAbsent}
-use Rattle.requests.specs.Asks.{Ask, actorOf}
+use Rattle.refusals.specs.declared.Reply.the-variants.{Done, ActorItself, NotInStock, TableUnsound, FieldInvalid, ActorUnfit, SlotEmpty, TargetDead, RightAbsent}
+use Rattle.requests.specs.Asks.{Ask, send, allocate, destroy, actorOf}
 use Rattle.refusals.specs.Replies.{isDone}
-use Rattle.refusals.proofs.Rows.{status-wanted}
-use Rattle.refusals.specs.Refusals.{refuse, noSlot, noObject, badSlots, badList, badField, unfit, needMet, alive, otherStatus, through, throughSlot, notInStock, targetOf, rightsOf, laterRows, refusal}
+use Rattle.refusals.proofs.Rows.{status-wanted, slot-placed}
+use Rattle.refusals.specs.Refusals.{refuse, noSlot, noObject, badSlots, badList, badField, unfit, needMet, alive, otherStatus, through, throughSlot, notInStock, targetOf, targetRecord, rightsOf, laterRows, refusal}
 
 -- a row that did not turn the request down
 pub passed : (cause : Bool) (why rest : Reply) → isDone why ≡ false → isDone (refuse cause why rest) ≡ true → (cause ≡ false) × (isDone rest ≡ true)
 passed true why rest f e = clash e f
 passed false why rest f e = (refl, e)
 
-pub slot-low : (j : ℕ) → noSlot j ≡ false → j < 8
-slot-low j e = omega (arith, ltb-false 7 j e)
-
 pub object-low : (n : ℕ) → noObject n ≡ false → n < 64
 object-low n e = omega (arith, ltb-false 63 n e)
 
 -- rows 1 to 3
 pub record PastChecks (t : Table) (q : Ask) : Type 0 where
+  pub whole : sound t ≡ true
   pub fields : badField q ≡ false
   pub alive : statusAt t (actorOf q) ≡ 1
   pub later : isDone (laterRows t q) ≡ true
@@ -51,9 +50,19 @@ past-checks t q e =
     let r2 = passed (badField q) FieldInvalid _ refl (r1 .1) in
     let r3 = passed (unfit (recordAt t (actorOf q))) ActorUnfit _ refl (r2 .1) in
     let a = or-none (not (isAlive (recordAt t (actorOf q)))) (not (isActive (recordAt t (actorOf q)))) (r3 .0) in
-    record { fields = r2 .0; alive = eqb-true _ 1 (not-false _ (a .0)); later = r3 .1 }
+    record { whole = not-false _ (r1 .0); fields = r2 .0; alive = eqb-true _ 1 (not-false _ (a .0)); later = r3 .1 }
 
 -- a request through a slot --------------------------------------------------------
+-- rows 4 to 6
+pub past-through : (c : Capability) (r : Record) (wanted : ℕ) (able : Bool) (rest : Reply) → isDone (through c r wanted able rest) ≡ true
+    → (isEmpty c ≡ false) × (otherStatus wanted r ≡ false) × (able ≡ true) × (isDone rest ≡ true)
+unfolding through
+past-through c r wanted able rest e =
+    let r4 = passed (isEmpty c) SlotEmpty _ refl e in
+    let r5 = passed (otherStatus wanted r) TargetDead _ refl (r4 .1) in
+    let r6 = passed (not able) RightAbsent rest refl (r5 .1) in
+    (r4 .0, r5 .0, not-false _ (r6 .0), r6 .1)
+
 pub record Granted (t : Table) (a s : ℕ) (need : Need) : Type 0 where
   pub actor : a < 64
   pub slot : s < 8
@@ -74,16 +83,14 @@ filled-slot a b c f e = byEq (c .rights) 0
 
 pub granted : (t : Table) (a s : ℕ) (need : Need) (rest : Reply) → Sound t → (noObject a || noSlot s) ≡ false → statusAt t a ≡ 1
     → isDone (throughSlot t a s alive need rest) ≡ true → (Granted t a s need) × (isDone rest ≡ true)
-unfolding throughSlot through
+unfolding throughSlot
 granted t a s need rest d f l e =
     let c = slotAt t a s in
-    let r4 = passed (isEmpty c) SlotEmpty _ refl e in
-    let r5 = passed (otherStatus alive (recordAt t (c .target))) TargetDead _ refl (r4 .1) in
-    let r6 = passed (not (needMet need (c .rights))) RightAbsent rest refl (r5 .1) in
+    let rows = past-through c (recordAt t (c .target)) alive (needMet need (c .rights)) rest e in
     let p = or-none (noObject a) (noSlot s) f in
-    let hs = slot-low s (p .1) in
+    let hs = slot-placed s (p .1) in
     let g = d .slots a s hs in
-    let h = filled-slot _ _ c g (r4 .0) in
+    let h = filled-slot _ _ c g (rows .0) in
     let b = g .named h in (
       record {
         actor = object-low a (p .0);
@@ -91,11 +98,18 @@ granted t a s need rest d f l e =
         alive = l;
         filled = h;
         target = born-low t (c .target) (d .size) b;
-        there = status-wanted alive (recordAt t (c .target)) b (d .records (c .target) .low) (r5 .0);
-        right = not-false _ (r6 .0);
+        there = status-wanted alive (recordAt t (c .target)) b (d .records (c .target) .low) (rows .1);
+        right = rows .2;
       },
-      r6 .1,
+      rows .3,
     )
+
+-- row 8 of a destroy
+pub not-itself : (t : Table) (a s : ℕ) → isDone (refusal t (destroy a s)) ≡ true → targetOf t a s ≢ a
+unfolding laterRows throughSlot
+not-itself t a s e =
+    let r = past-through (slotAt t a s) (targetRecord t a s) alive (needMet Write (rightsOf t a s)) _ (past-checks t (destroy a s) e .later) in
+    eqb-false (targetOf t a s) a (passed (eqb (targetOf t a s) a) ActorItself Done refl (r .3) .0)
 
 -- a pair list --------------------------------------------------------------------------
 pub data Ranged : List Pair → Type 0 where
@@ -108,11 +122,15 @@ slots-ranged [] e = none
 slots-ranged (p ∷ ps) e =
     let a = or-none (noSlot (p .from) || noSlot (p .to)) (badSlots ps) e in
     let b = or-none (noSlot (p .from)) (noSlot (p .to)) (a .0) in
-    more (slot-low _ (b .0)) (slot-low _ (b .1)) (slots-ranged ps (a .1))
+    more (slot-placed _ (b .0)) (slot-placed _ (b .1)) (slots-ranged ps (a .1))
 
 pub ranged : (ps : List Pair) → badList ps ≡ false → Ranged ps
 unfolding badList
 ranged ps e = slots-ranged ps (or-none (ltb 4 (length ps)) (badSlots ps) e .1)
+
+pub send-list : (a s w : ℕ) (ps : List Pair) (y : ℕ) → badField (send a s w ps y) ≡ false → ((noObject a || noSlot s) ≡ false) × (badList ps ≡ false)
+unfolding badField
+send-list a s w ps y e = or-none (noObject a || noSlot s) (badList ps) (or-none (noObject a || noSlot s || badList ps) (ltb 8 y) e .0)
 
 -- a stock ---------------------------------------------------------------------------------
 pub record Within (n part stock : ℕ) : Type 0 where
@@ -128,4 +146,32 @@ within n part stock e =
       inside = λ k hk h.
           let q = and-true (has k stock) (not (eqb k n)) (sym (has-excluding k n stock hk) ∙ subset-at part (excluding n stock) k (not-false _ (p .1)) hk h) in
           (q .0, eqb-false k n (not-true _ (q .1)));
+    }
+
+-- an allocate ------------------------------------------------------------------------------
+pub record Made (t : Table) (ps : List Pair) (a n k p i : ℕ) : Type 0 where
+  pub actor : a < 64
+  pub number : n < 64
+  pub kind : k ≤ 1
+  pub slot : i < 8
+  pub alive : statusAt t a ≡ 1
+  pub share : Within n p (stockAt t a)
+  pub list : badList ps ≡ false
+
+pub made-facts : (t : Table) (ps : List Pair) (a n k p i : ℕ) → isDone (refusal t (allocate a n k p i ps)) ≡ true → Made t ps a n k p i
+unfolding badField laterRows
+made-facts t ps a n k p i e =
+    let r = past-checks t (allocate a n k p i ps) e in
+    let f1 = or-none (noObject a || noObject n || ltb 1 k || noSlot i) (badList ps) (r .fields) in
+    let f2 = or-none (noObject a || noObject n || ltb 1 k) (noSlot i) (f1 .0) in
+    let f3 = or-none (noObject a || noObject n) (ltb 1 k) (f2 .0) in
+    let f4 = or-none (noObject a) (noObject n) (f3 .0) in
+    record {
+      actor = object-low a (f4 .0);
+      number = object-low n (f4 .1);
+      kind = ltb-false 1 k (f3 .1);
+      slot = slot-placed i (f2 .1);
+      alive = r .alive;
+      share = within n p _ (passed (notInStock n p (stockAt t a)) NotInStock Done refl (r .later) .0);
+      list = f1 .1;
     }

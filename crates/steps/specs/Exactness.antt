@@ -1,0 +1,69 @@
+-- What is claimed of slots that a request keeps or empties, as statements about the table after it; proofs/Emptying.antt proves them, and
+-- proofs/Copied.antt the last two.
+-- Document 02, 2.4: "a copy that comes out empty, from an empty slot or from weakening, changes no slot. This holds in fetch, store,
+-- send and allocate; revoke alone empties a slot of an alive object". Slots are numbered 0 to 7; what would be slot 8 of an object is
+-- slot 0 of the next.
+use mathlib.Core.Path.{_≡_}
+use mathlib.Core.Bool.{true, false}
+use mathlib.Core.List.{List}
+use Prim.Native.Nat.{ℕ, _<_}
+use lib.Dec.{eqb}
+use Rattle.table.specs.declared.Table.{Table}
+use Rattle.table.specs.Cells.{IsTable, emptySlot, recordAt, slotAt, isEmpty, isAlive, hasRd, hasWk}
+use Rattle.requests.specs.declared.Pair.{Pair}
+use Rattle.requests.specs.Asks.{Ask, fetch, store, revoke, send, allocate}
+use Rattle.refusals.specs.Replies.{isDone}
+use Rattle.refusals.specs.Refusals.{refusal, targetOf, rightsOf}
+use Rattle.copies.specs.Copies.{fetched}
+use Rattle.copies.specs.Exactness.{LeftOut, lastFilled}
+use Rattle.steps.specs.Steps.{after, stepOf}
+
+-- a revoke that is done, of slot j of object n
+pub record RevokeDone (tb : Table) (q : Ask) (n j : ℕ) : Type 0 where
+  pub actor : ℕ
+  pub through : ℕ
+  pub asked : q ≡ revoke actor through j
+  pub target : targetOf tb actor through ≡ n
+  pub done : isDone (refusal tb q) ≡ true
+
+-- only revoke empties: for every table and request, a slot that is filled before and empty after, of an object that is alive after, was
+-- emptied by a revoke that was done, of that very slot
+unfoldable pub OnlyRevokeEmpties : Type 0
+OnlyRevokeEmpties = (tb : Table) (q : Ask) (n j : ℕ) → j < 8 → isEmpty (slotAt tb n j) ≡ false
+    → isEmpty (slotAt (after tb q) n j) ≡ true → isAlive (recordAt (after tb q) n) ≡ true → RevokeDone tb q n j
+
+-- and it does
+unfoldable pub RevokeEmpties : Type 0
+RevokeEmpties = (tb : Table) (q : Ask) (n j : ℕ) → RevokeDone tb q n j → isEmpty (slotAt (after tb q) n j) ≡ true
+
+-- a fetch and a store whose copy comes out empty leave the whole table as it was
+unfoldable pub EmptyFetchKeeps : Type 0
+EmptyFetchKeeps = (tb : Table) (a t i j : ℕ) → isEmpty (fetched (rightsOf tb a t) (slotAt tb (targetOf tb a t) i)) ≡ true
+    → after tb (fetch a t i j) ≡ tb
+
+unfoldable pub EmptyStoreKeeps : Type 0
+EmptyStoreKeeps = (tb : Table) (a t i j : ℕ) → isEmpty (slotAt tb a i) ≡ true → after tb (store a t i j) ≡ tb
+
+-- from weakening: a fetch without rd of a slot that has neither rd nor wk, so wr, tx, both or nothing
+unfoldable pub WeakenedFetchKeeps : Type 0
+WeakenedFetchKeeps = (tb : Table) (a t i j : ℕ) → hasRd (rightsOf tb a t) ≡ false → hasRd (rightsOf tb (targetOf tb a t) i) ≡ false
+    → hasWk (rightsOf tb (targetOf tb a t) i) ≡ false → after tb (fetch a t i j) ≡ tb
+
+-- in a send or an allocate that is done, pairs whose source slot is empty can be left out of the list, and the step is the same
+unfoldable pub EmptyPairsFree : Type 0
+EmptyPairsFree = (tb : Table) (a : ℕ) (list shorter : List Pair) → LeftOut (slotAt tb a) list shorter
+    → ((t word reply : ℕ) → isDone (refusal tb (send a t word list reply)) ≡ true
+    → stepOf tb (send a t word shorter reply) ≡ stepOf tb (send a t word list reply))
+    × ((n kind part i : ℕ) → isDone (refusal tb (allocate a n kind part i list)) ≡ true
+    → stepOf tb (allocate a n kind part i shorter) ≡ stepOf tb (allocate a n kind part i list))
+
+-- what slot j then holds: of the target of a send the reply slot comes on top of the pairs; of a new object the pairs that are not
+-- empty, and nothing else
+unfoldable pub SentSlots : Type 0
+SentSlots = (tb : Table) (a t word : ℕ) (list : List Pair) (reply j : ℕ) → IsTable tb → j < 8 → isDone (refusal tb (send a t word list reply)) ≡ true
+    → slotAt (after tb (send a t word list reply)) (targetOf tb a t) j
+    ≡ elim (eqb reply j) [ true ↦ record { target = a; rights = 8 } | false ↦ lastFilled (slotAt tb a) j (slotAt tb (targetOf tb a t) j) list ]
+
+unfoldable pub MadeSlots : Type 0
+MadeSlots = (tb : Table) (a n kind part i : ℕ) (list : List Pair) (j : ℕ) → IsTable tb → j < 8 → isDone (refusal tb (allocate a n kind part i list)) ≡ true
+    → slotAt (after tb (allocate a n kind part i list)) n j ≡ lastFilled (slotAt tb a) j emptySlot list
