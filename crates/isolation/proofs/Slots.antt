@@ -19,7 +19,7 @@ use Rattle.isolation.specs.Clean.{Clean}
 use Rattle.isolation.specs.Demand.{AgreeOn}
 use Rattle.isolation.proofs.Invariant.{Isolated, SlotFits, putSlot-isolated, putRecord-isolated, agree-record-out, agree-slot-out, agree-record, agree-slot}
 use Rattle.refusals.proofs.Rows.{slot-placed}
-use Rattle.steps.proofs.Granted.{past-checks, Granted, granted}
+use Rattle.steps.proofs.Granted.{past-checks, Granted, granted, revoke-slot}
 use Rattle.isolation.proofs.Sides.{clean-target, dirty-target, same-side, weak-no-write, fetched-elim, fits-word}
 use Rattle.isolation.proofs.Copies.{fits-empty, fits-moved, copy-isolated, copy-out, copy-both}
 
@@ -121,8 +121,7 @@ module _ (t : Table) (C : Clean) (v : Isolated t C) (a s i j : ℕ) (e : isDone 
 -- revoke --------------------------------------------------------------------------
 module _ (t : Table) (C : Clean) (v : Isolated t C) (a s j : ℕ) (e : isDone (refusal t (revoke a s j)) ≡ true) where
   revoke-fields : ((noObject a || noSlot s) ≡ false) × (j < 8)
-  unfolding badField
-  revoke-fields = let p = or-none (noObject a || noSlot s) (noSlot j) (past-checks t (revoke a s j) e .fields) in (p .0, slot-placed j (p .1))
+  revoke-fields = revoke-slot a s j (past-checks t (revoke a s j) e .fields)
 
   revoke-granted : Granted t a s Write
   unfolding laterRows

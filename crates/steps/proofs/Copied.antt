@@ -6,9 +6,8 @@ use mathlib.Core.List.{List}
 use Prim.Native.Nat.{ℕ, _<_}
 use native.Mathlib.Omega.{arith}
 use lib.Dec.{ltb, eqb}
-use lib.ListN.{length}
 use borrow.Author.Tests.{ltb-true, lt-ltb, eq-eqb, ne-eqb}
-use Rattle.mask.proofs.Tests.{byCases, byEq, or-none}
+use Rattle.mask.proofs.Tests.{byCases, byEq}
 use Rattle.table.specs.declared.Capability.{Capability}
 use Rattle.table.specs.declared.Table.{Table}
 use Rattle.table.specs.Cells.{IsTable, emptySlot, recordAt, slotAt, statusAt, stockAt, putRecord}
@@ -18,19 +17,14 @@ use Rattle.requests.specs.declared.Pair.{Pair}
 use Rattle.requests.specs.Asks.{Ask, send, allocate}
 use Rattle.refusals.specs.declared.Need.the-variants.{Send}
 use Rattle.refusals.specs.Replies.{isDone}
-use Rattle.refusals.specs.Refusals.{badSlots, badList, laterRows, refusal, targetOf}
+use Rattle.refusals.specs.Refusals.{laterRows, refusal, targetOf}
 use Rattle.copies.specs.Copies.{copyPairs}
 use Rattle.copies.specs.Exactness.{lastFilled}
 use Rattle.copies.proofs.Pairs.{copies-sized, wins}
 use Rattle.effects.specs.Effects.{answerSlot, withWord, withStock, made, fullOver, stockLess, sent, allocated, effect}
 use Rattle.steps.specs.Exactness.{SentSlots, MadeSlots}
 use Rattle.steps.proofs.Refused.{done-effects}
-use Rattle.steps.proofs.Granted.{past-checks, granted, send-list, made-facts}
-
--- a list that is not refused has no slot above 7
-slots-in : (ps : List Pair) → badList ps ≡ false → badSlots ps ≡ false
-unfolding badList
-slots-in ps e = or-none (ltb 4 (length ps)) (badSlots ps) e .1
+use Rattle.steps.proofs.Granted.{past-checks, granted, list-in, send-list, made-facts}
 
 -- the facts of a sound table, of one where a request was done
 sound-done : (t : Table) (q : Ask) → IsTable t → isDone (refusal t q) ≡ true → Sound t
@@ -60,7 +54,7 @@ module _ (t : Table) (a s w : ℕ) (list : List Pair) (y j : ℕ) (it : IsTable 
       let z = sized-putRecord t x (withWord (recordAt t x) w) (f .size) in
       answered (copyPairs v (slotAt t a) x list) x y a j (copies-sized v (slotAt t a) x list z) (g .target) hj
       ∙ ap (λ (c : Capability). elim (eqb y j) [ true ↦ record { target = a; rights = 8 } | false ↦ c ])
-      (wins (slotAt t a) x j (g .target) hj v list z (slots-in list (q .1)))
+      (wins (slotAt t a) x j (g .target) hj v list z (list-in list (q .1) .1))
 
 pub sent-slots : SentSlots
 unfolding SentSlots
@@ -78,7 +72,7 @@ module _ (t : Table) (a n k p i : ℕ) (list : List Pair) (j : ℕ) (it : IsTabl
       let v = putRecord (putRecord t a less) n (made k p) in
       let z = sized-putRecord (putRecord t a less) n (made k p) (sized-putRecord t a less (f .size)) in
       slot-other (copyPairs v (slotAt t a) n list) a i n j (fullOver n) (g .slot) hj (λ e. absurd (omega (arith, unborn, rw (← e) at (g .alive))))
-      ∙ wins (slotAt t a) n j (g .number) hj v list z (slots-in list (g .list))
+      ∙ wins (slotAt t a) n j (g .number) hj v list z (list-in list (g .list) .1)
       ∙ ap (λ (c : Capability). lastFilled (slotAt t a) j c list) (bare-slot t n f unborn j hj)
 
 pub made-slots : MadeSlots

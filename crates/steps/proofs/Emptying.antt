@@ -16,24 +16,19 @@ use Rattle.table.specs.Cells.{emptySlot, recordAt, slotAt, putSlot, isEmpty, is
 use Rattle.requests.specs.declared.Pair.{Pair}
 use Rattle.requests.specs.Asks.{Ask, read, write, fetch, store, revoke, send, allocate, destroy, unknown}
 use Rattle.refusals.specs.Replies.{isDone}
-use Rattle.refusals.specs.Refusals.{noObject, noSlot, badSlots, badList, badField, needMet, laterRows, refusal, targetOf, rightsOf}
+use Rattle.refusals.specs.Refusals.{noSlot, badSlots, badList, badField, needMet, laterRows, refusal, targetOf, rightsOf}
 use Rattle.effects.specs.Effects.{answerSlot, fullOver, effect, sent, allocated}
 use Rattle.effects.proofs.Emptied.{fetch-nothing, store-nothing, sent-full, allocated-full, revoked-empty, destroyed-other, destroyed-dead}
 use Rattle.copies.specs.Exactness.{CopyEmptiesNone, LeftOut, none, kept, left, LeftOutSame}
 use Rattle.copies.proofs.Landing.{copy-empties-none}
 use Rattle.copies.proofs.Pairs.{left-out-same}
 use Rattle.copies.proofs.Weakening.{fetched-weakened, weaken-unable}
-use Rattle.refusals.proofs.Rows.{slot-placed}
 use Rattle.steps.specs.Steps.{after, stepOf}
 use Rattle.steps.specs.Exactness.{RevokeDone, OnlyRevokeEmpties, RevokeEmpties, EmptyFetchKeeps, EmptyStoreKeeps, WeakenedFetchKeeps, EmptyPairsFree}
 use Rattle.steps.proofs.Refused.{refused-keeps, done-effects, step-done}
-use Rattle.steps.proofs.Granted.{past-checks, not-itself, send-list}
+use Rattle.steps.proofs.Granted.{past-checks, not-itself, list-in, revoke-slot, send-list, made-facts}
 
 -- only revoke ------------------------------------------------------------------------------------------------
-revoked-slot : (t : Table) (a s j : ℕ) → isDone (refusal t (revoke a s j)) ≡ true → j < 8
-unfolding badField
-revoked-slot t a s j d = slot-placed j (or-none (noObject a || noSlot s) (noSlot j) (past-checks t (revoke a s j) d .fields) .1)
-
 emptied : (t : Table) (q : Ask) (n j : ℕ) → j < 8 → isDone (refusal t q) ≡ true → isEmpty (slotAt t n j) ≡ false
     → isEmpty (slotAt (effect t q) n j) ≡ true → isAlive (recordAt (effect t q) n) ≡ true → RevokeDone t q n j
 unfolding effect CopyEmptiesNone
@@ -42,7 +37,7 @@ emptied t (write a s w) n j hj d full bare live = clash bare full
 emptied t (fetch a s i k) n j hj d full bare live = clash bare (copy-empties-none t a k _ n j full)
 emptied t (store a s i k) n j hj d full bare live = clash bare (copy-empties-none t (targetOf t a s) k _ n j full)
 emptied t (revoke a s k) n j hj d full bare live =
-    let hk = revoked-slot t a s k d in
+    let hk = revoke-slot a s k (past-checks t (revoke a s k) d .fields) .1 in
     byEq (n * 8 + j) (targetOf t a s * 8 + k)
     (λ e. record { actor = a; through = s; asked = ap (λ (x : ℕ). revoke a s x) (omega arith); target = omega arith; done = d })
     (λ e. clash bare (rw (getD-set-other (t .slots) (targetOf t a s * 8 + k) (n * 8 + j) emptySlot emptySlot e) full))
@@ -100,7 +95,7 @@ module _ {source : ℕ → Capability} where
   left-list : {list shorter : List Pair} → LeftOut source list shorter → badList list ≡ false → badList shorter ≡ badList list
   unfolding badList
   left-list {list} {shorter} r b =
-      let h = or-none (ltb 4 (length list)) (badSlots list) b in
+      let h = list-in list b in
       let s : ltb 4 (length shorter) ≡ false = le-ltb 4 (length shorter) (omega (arith, left-length r, ltb-false 4 (length list) (h .0))) in
       rw (s, h .0, h .1, left-slots r (h .1)) refl
 
@@ -119,7 +114,7 @@ module _ (t : Table) (a : ℕ) {list shorter : List Pair} (r : LeftOut (slotAt t
   allocate-left : (n k p i : ℕ) → isDone (refusal t (allocate a n k p i list)) ≡ true → stepOf t (allocate a n k p i shorter) ≡ stepOf t (allocate a n k p i list)
   unfolding refusal badField laterRows effect allocated LeftOutSame
   allocate-left n k p i d =
-      let l = left-list r (or-none (noObject a || noObject n || ltb 1 k || noSlot i) (badList list) (past-checks t (allocate a n k p i list) d .fields) .1) in
+      let l = left-list r (made-facts t list a n k p i d .list) in
       same-step t (allocate a n k p i shorter) (allocate a n k p i list) d (rw l refl)
       (ap (λ (v : Table). putSlot v a i (fullOver n)) (left-out-same _ (slotAt t a) n list shorter r))
 

@@ -23,7 +23,7 @@ use Rattle.refusals.specs.declared.Need.{Need}
 use Rattle.refusals.specs.declared.Need.the-variants.{Write}
 use Rattle.refusals.specs.declared.Reply.{Reply}
 use Rattle.refusals.specs.declared.Reply.the-variants.{Done, ActorItself, NotInStock, TableUnsound, FieldInvalid, ActorUnfit, SlotEmpty, TargetDead, RightAbsent}
-use Rattle.requests.specs.Asks.{Ask, send, allocate, destroy, actorOf}
+use Rattle.requests.specs.Asks.{Ask, revoke, send, allocate, destroy, actorOf}
 use Rattle.refusals.specs.Replies.{isDone}
 use Rattle.refusals.proofs.Rows.{status-wanted, slot-placed}
 use Rattle.refusals.specs.Refusals.{refuse, noSlot, noObject, badSlots, badList, badField, unfit, needMet, alive, otherStatus, through, throughSlot, notInStock, targetOf, targetRecord, rightsOf, laterRows, refusal}
@@ -104,6 +104,11 @@ granted t a s need rest d f l e =
       rows .3,
     )
 
+-- the slot of a revoke
+pub revoke-slot : (a s j : ℕ) → badField (revoke a s j) ≡ false → ((noObject a || noSlot s) ≡ false) × (j < 8)
+unfolding badField
+revoke-slot a s j e = let p = or-none (noObject a || noSlot s) (noSlot j) e in (p .0, slot-placed j (p .1))
+
 -- row 8 of a destroy
 pub not-itself : (t : Table) (a s : ℕ) → isDone (refusal t (destroy a s)) ≡ true → targetOf t a s ≢ a
 unfolding laterRows throughSlot
@@ -124,9 +129,13 @@ slots-ranged (p ∷ ps) e =
     let b = or-none (noSlot (p .from)) (noSlot (p .to)) (a .0) in
     more (slot-placed _ (b .0)) (slot-placed _ (b .1)) (slots-ranged ps (a .1))
 
-pub ranged : (ps : List Pair) → badList ps ≡ false → Ranged ps
+-- no longer than 4, and no slot above 7
+pub list-in : (ps : List Pair) → badList ps ≡ false → (ltb 4 (length ps) ≡ false) × (badSlots ps ≡ false)
 unfolding badList
-ranged ps e = slots-ranged ps (or-none (ltb 4 (length ps)) (badSlots ps) e .1)
+list-in ps e = or-none (ltb 4 (length ps)) (badSlots ps) e
+
+pub ranged : (ps : List Pair) → badList ps ≡ false → Ranged ps
+ranged ps e = slots-ranged ps (list-in ps e .1)
 
 pub send-list : (a s w : ℕ) (ps : List Pair) (y : ℕ) → badField (send a s w ps y) ≡ false → ((noObject a || noSlot s) ≡ false) × (badList ps ≡ false)
 unfolding badField
