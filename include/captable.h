@@ -2,7 +2,7 @@
  * captable.h: the proved capability table for firmware in C and C++.
  *
  * The table is one fixed table of 64 objects with eight capabilities each. Its rules are document 01's,
- * with requests 2.1 to 2.4 of document 02, and every answer is a number of theirs: 0 for done, or why not
+ * with requests 2.1 to 2.5 of document 02, and every answer is a number of theirs: 0 for done, or why not
  * (enum captable_number).
  *
  * Link with libcaptable.a, which `rt staticlib captable` proves and writes. It needs memcpy and memset
@@ -68,9 +68,9 @@ extern "C" {
 
 /* ---- version -------------------------------------------------------------------------------------- */
 
-/* The version of the calls, 0.5.0: the first number times 65,536, the second times 256, and the third.
+/* The version of the calls, 0.6.0: the first number times 65,536, the second times 256, and the third.
  * captable_version gives that of the archive. Compare the two at start. */
-#define CAPTABLE_VERSION 1280
+#define CAPTABLE_VERSION 1536
 
 /* ---- sizes ---------------------------------------------------------------------------------------- */
 
@@ -101,8 +101,8 @@ extern "C" {
  *
  * A test measures every call and holds these numbers to it (model/peer/tests/stack.rs).
  */
-#define CAPTABLE_STACK_STEP 12600
-#define CAPTABLE_STACK_STEP_BY_VALUE 10520
+#define CAPTABLE_STACK_STEP 12616
+#define CAPTABLE_STACK_STEP_BY_VALUE 10536
 #define CAPTABLE_STACK_SOUND 4200
 #define CAPTABLE_STACK_ACCESS 14424
 #define CAPTABLE_STACK_TEST 12456
@@ -123,7 +123,8 @@ enum captable_status { CAPTABLE_UNBORN = 0, CAPTABLE_ALIVE = 1, CAPTABLE_DEAD = 
 enum captable_kind { CAPTABLE_PASSIVE = 0, CAPTABLE_ACTIVE = 1 };
 
 /* Rights add up. wk is the weak right: reading that passes on nothing stronger than itself. Who holds wk alone
- * influences nobody by it, and captable_test asks for no entry for it. */
+ * influences nobody by it, and captable_test asks for no entry for it. docs/RIGHTS.md has a row for each of the
+ * sixteen values: what it may be used for, and what a fetch without rd makes of it. */
 enum captable_right { CAPTABLE_RD = 1, CAPTABLE_WR = 2, CAPTABLE_WK = 4, CAPTABLE_TX = 8 };
 
 /* The code of a request, its first byte. */

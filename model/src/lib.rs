@@ -26,6 +26,7 @@
 //! | 2.2 Bring in take-and-grant tables | `take_grant`: checks, the walk over the entities, what rights become |
 //! | 2.3 Weak capabilities need no entry | `confinement`: `passes`, the amended refusal 12 |
 //! | 2.4 An empty copy keeps the destination | `step`: `landed`, where every copy lands |
+//! | 2.5 Sixteen rows for weakening | none: no result changes. The rows are compared with `step`, which keeps to the sentences: `weaken`, `Code::needs` |
 //!
 //! Beside these, `links` leads to the bound a second way, as the proved code has it too: what can be
 //! reached from the holder of the list, link by link. Of requests and lists as bytes document 01 says no

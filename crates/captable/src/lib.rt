@@ -54,7 +54,7 @@ pub struct ShownChain {
 pub extern "C" fn captable_version() -> u32
     ensures { λ r. ⌜ r ≡ version ⌝ }
 {
-    1280
+    1536
 }
 
 // 0 for a sound table, 1 for any other.

@@ -1,4 +1,4 @@
--- Where one copy lands, the laws of pairs that the proofs cite, and what weakening leaves.
+-- Where one copy lands, the laws of pairs that the proofs cite, and what a fetch takes.
 pub mod Landing
 pub mod Pairs
-pub mod Weakening
+pub mod Fetches

@@ -1,17 +1,12 @@
--- Document 01, "The eight requests": what a copied capability becomes, and where it lands.
+-- Document 01, "The eight requests": what a fetch takes, and where a copied capability lands.
 use mathlib.Core.Bool.{true, false}
 use mathlib.Core.List.{List, [], _∷_}
 use Prim.Native.Nat.{ℕ}
 use Rattle.table.specs.declared.Capability.{Capability}
 use Rattle.table.specs.declared.Table.{Table}
-use Rattle.table.specs.Cells.{isEmpty, emptySlot, slotAt, putSlot, hasRd}
+use Rattle.table.specs.Cells.{isEmpty, slotAt, putSlot, hasRd}
+use Rattle.rights.specs.Rows.{weaken}
 use Rattle.requests.specs.declared.Pair.{Pair}
-use Rattle.refusals.specs.declared.Need.the-variants.{ReadOrWeak}
-use Rattle.refusals.specs.Refusals.{needMet}
-
--- "Weakening gives wk if rd or wk was present; otherwise the copy is empty"
-unfoldable pub weaken : Capability → Capability
-weaken c = elim (needMet ReadOrWeak (c .rights)) [ true ↦ record { target = c .target; rights = 4 } | false ↦ emptySlot ]
 
 -- what a fetch through a slot with these rights takes: "weakened if rd is absent"
 unfoldable pub fetched : ℕ → Capability → Capability

@@ -1,4 +1,4 @@
--- What a copied capability becomes, and where it lands.
+-- What a fetch takes, and where a copied capability lands.
 pub mod Copies
 pub mod Helpers
 pub mod Exactness

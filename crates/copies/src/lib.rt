@@ -1,34 +1,18 @@
-// What a copied capability becomes, and where it lands, document 01.
-use refusals::Need;
+// What a fetch takes, and where a copied capability lands, document 01.
 use requests::PairList;
+use rights::weaken;
 use table::Capability;
 use table::Table;
 ghost use mathlib.Core.Path.{_≡_};
 ghost use Prim.Native.Nat.{_<_};
 ghost use Rattle.requests.specs.Asks.{pairsOf};
-ghost use Rattle.copies.specs.Copies.{weaken as weakened, fetched as fetchedBy, landed as landedOn, copyPairs};
+ghost use Rattle.copies.specs.Copies.{fetched as fetchedBy, landed as landedOn, copyPairs};
 ghost use Rattle.refusals.specs.Helpers.{PairsFit};
 ghost use Rattle.copies.specs.Helpers.{rowAt, cellOf};
 
 // A record's eight slots.
 pub struct Row {
     pub cells: [Capability; 8],
-}
-
-// wk if rd or wk was present; otherwise empty.
-pub fn weaken(c: Capability) -> Capability
-    ensures { λ r. ⌜ r ≡ weakened c ⌝ }
-{
-    if refusals::need_met(Need::ReadOrWeak, c.rights) {
-        return Capability {
-            target: c.target,
-            rights: 4,
-        };
-    }
-    Capability {
-        target: 0,
-        rights: 0,
-    }
 }
 
 // What a fetch through a slot with these rights takes.

@@ -6,10 +6,10 @@ use lib.ListN.{take, set}
 use Rattle.table.specs.declared.Capability.{Capability}
 use Rattle.table.specs.declared.Table.{Table}
 use Rattle.table.specs.Cells.{recordAt, stockAt, putSlot, emptySlot}
+use Rattle.rights.specs.Rows.{weaken}
 use Rattle.requests.specs.Asks.{Ask, read, write, allocate}
 use Rattle.refusals.specs.Replies.{number}
 use Rattle.refusals.specs.Refusals.{refusal}
-use Rattle.copies.specs.Copies.{weaken}
 use Rattle.steps.specs.Steps.{after, stepOf}
 use Rattle.relation.specs.Relation.{Right, rd, wr, wk, tx, Can, tableHolding}
 use Rattle.confinement.specs.Refusals.{verdictNumber}

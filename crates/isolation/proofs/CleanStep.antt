@@ -12,13 +12,14 @@ use Rattle.table.specs.declared.Table.{Table}
 use Rattle.table.specs.Cells.{recordAt, slotAt, isActive, isEmpty}
 use Rattle.table.specs.Soundness.{sound}
 use Rattle.table.proofs.SoundFacts.{sound-true}
-use Rattle.refusals.specs.declared.Need.{Need}
-use Rattle.refusals.specs.declared.Need.the-variants.{ReadOrWeak, Write, Send}
+use Rattle.rights.specs.declared.Need.the-variants.{ReadOrWeak, Write, Send}
+use Rattle.rights.specs.declared.Need.{Need}
+use Rattle.rights.specs.Rows.{needMet}
 use Rattle.refusals.specs.declared.Reply.{Reply}
 use Rattle.refusals.specs.declared.Reply.the-variants.{Done, ActorUnfit, SlotEmpty, TargetDead, RightAbsent, TargetPassive, ActorItself, NotInStock}
 use Rattle.requests.specs.Asks.{Ask, read, write, fetch, store, revoke, send, allocate, destroy, unknown, actorOf}
 use Rattle.refusals.specs.Replies.{isDone}
-use Rattle.refusals.specs.Refusals.{refuse, noSlot, noObject, badList, badField, unfit, needMet, alive, otherStatus, through, throughSlot, notInStock, targetOf, laterRows, refusal}
+use Rattle.refusals.specs.Refusals.{refuse, noSlot, noObject, badList, badField, unfit, alive, otherStatus, through, throughSlot, notInStock, targetOf, laterRows, refusal}
 use Rattle.effects.specs.Effects.{effect}
 use Rattle.steps.specs.Steps.{after}
 use Rattle.steps.proofs.Refused.{refused-keeps, done-effects}

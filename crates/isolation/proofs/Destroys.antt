@@ -12,7 +12,7 @@ use Rattle.table.specs.declared.Record.{Record}
 use Rattle.table.specs.declared.Table.{Table}
 use Rattle.table.specs.Cells.{recordAt, slotAt, statusAt, stockAt, putRecord}
 use Rattle.table.proofs.Cells.{record-put, sized-putRecord}
-use Rattle.refusals.specs.declared.Need.the-variants.{Write}
+use Rattle.rights.specs.declared.Need.the-variants.{Write}
 use Rattle.requests.specs.Asks.{destroy}
 use Rattle.refusals.specs.Replies.{isDone}
 use Rattle.refusals.specs.Refusals.{badField, laterRows, refusal, targetOf}

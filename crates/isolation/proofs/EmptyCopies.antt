@@ -7,14 +7,15 @@ use mathlib.Core.List.{List, [], _∷_}
 use Rattle.mask.specs.Sets.{bits, allBelow, anyBelow, lessOf}
 use Rattle.table.specs.Cells.{recordAt, slotAt, isEmpty}
 use Rattle.table.specs.Soundness.{stockSound, soundAt, sound}
+use Rattle.rights.specs.Rows as Rights
 use Rattle.relation.specs.Relation.{takesPart, holdsIn}
 use Rattle.relation.specs.Closure.{grow, spread, only, reached, bothTakePart, holdsStrong, link, influencedSet}
 use Rattle.bounds.specs.StandIn.{listed, lowestFrom, standIn, testNode, testHeld, boundOf}
 use Rattle.refusals.specs.declared.Reply.the-variants.{Done}
 use Rattle.requests.specs.Asks.{Ask, write, fetch}
-use Rattle.refusals.specs.Refusals as Rows
+use Rattle.refusals.specs.Refusals as Refusals
 use Rattle.effects.specs.Effects.{effect}
-use Rattle.copies.specs.Copies.{fetched, weaken, landed}
+use Rattle.copies.specs.Copies.{fetched, landed}
 use Rattle.steps.specs.Steps.{after, runTable}
 use Rattle.steps.specs.Exactness.{EmptyFetchKeeps, WeakenedFetchKeeps}
 use Rattle.steps.proofs.Emptying.{empty-fetch-keeps, weakened-fetch-keeps}
@@ -42,7 +43,7 @@ member-kept = (refl, refl, refl, weakened-fetch-keeps other 2 1 3 0 refl refl re
 
 -- the member's write through the kept slot shows at the end
 pub member-writes : recordAt (runTable other kept-right) 3 .word ≡ 6
-unfolding kept-right other base alive over bits allBelow anyBelow stockSound soundAt sound Rows.badField Rows.needMet Rows.through Rows.throughSlot Rows.laterRows Rows.refusal weaken fetched landed effect after runTable
+unfolding kept-right other base alive over bits allBelow anyBelow stockSound soundAt sound Refusals.badField Rights.rows Rights.worthOf Rights.needMet Refusals.through Refusals.throughSlot Refusals.laterRows Refusals.refusal Rights.weaken fetched landed effect after runTable
 member-writes = refl
 
 -- the requests of 0 are the same, and on the left both are done
@@ -55,7 +56,7 @@ unfolding kept-left kept-right other base members list alive over bits allBelow 
 right-asked = refl
 
 pub kept-done : cleanReplies base C kept-left ≡ Done ∷ Done ∷ []
-unfolding kept-left base members list alive over bits allBelow anyBelow lessOf takesPart holdsIn grow spread only reached bothTakePart holdsStrong link influencedSet listed lowestFrom standIn testNode testHeld boundOf cleanAtStart cleanAfter stockSound soundAt sound Rows.badField Rows.needMet Rows.through Rows.throughSlot Rows.laterRows Rows.refusal weaken fetched landed effect after cleanReplies
+unfolding kept-left base members list alive over bits allBelow anyBelow lessOf takesPart holdsIn grow spread only reached bothTakePart holdsStrong link influencedSet listed lowestFrom standIn testNode testHeld boundOf cleanAtStart cleanAfter stockSound soundAt sound Refusals.badField Rights.rows Rights.worthOf Rights.needMet Refusals.through Refusals.throughSlot Refusals.laterRows Refusals.refusal Rights.weaken fetched landed effect after cleanReplies
 kept-done = refl
 
 -- the theorem at work, and so done on the right

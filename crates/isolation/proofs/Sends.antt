@@ -10,8 +10,8 @@ use Rattle.table.specs.declared.Record.{Record}
 use Rattle.table.specs.declared.Table.{Table}
 use Rattle.table.specs.Cells.{recordAt, slotAt, statusAt, putRecord}
 use Rattle.table.proofs.Cells.{record-put, sized-putRecord}
+use Rattle.rights.specs.declared.Need.the-variants.{Send}
 use Rattle.requests.specs.declared.Pair.{Pair}
-use Rattle.refusals.specs.declared.Need.the-variants.{Send}
 use Rattle.requests.specs.Asks.{send}
 use Rattle.refusals.specs.Replies.{isDone}
 use Rattle.refusals.specs.Refusals.{noObject, noSlot, laterRows, refusal, targetOf}

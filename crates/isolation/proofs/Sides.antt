@@ -11,22 +11,24 @@ use Rattle.table.specs.declared.Record.{Record}
 use Rattle.table.specs.declared.Table.{Table}
 use Rattle.table.specs.Cells.{emptySlot, recordAt, statusAt, stockAt, hasRd}
 use Rattle.table.proofs.SoundFacts.{Sound}
-use Rattle.refusals.specs.declared.Need.{Need}
-use Rattle.refusals.specs.declared.Need.the-variants.{ReadOrWeak, Write, Send}
-use Rattle.refusals.specs.Refusals.{needMet, targetOf}
+use Rattle.rights.specs.declared.Need.the-variants.{Write, Send}
+use Rattle.rights.specs.declared.Need.{Need}
+use Rattle.rights.specs.Rows.{rows, worthOf, needMet}
+use Rattle.rights.proofs.Weakening.{weaken-elim}
+use Rattle.refusals.specs.Refusals.{targetOf}
 use Rattle.effects.specs.Effects.{withWord}
-use Rattle.copies.specs.Copies.{weaken, fetched}
+use Rattle.copies.specs.Copies.{fetched}
 use Rattle.isolation.specs.Clean.{Clean}
 use Rattle.isolation.proofs.Invariant.{wkAlone, Isolated, RecordFits}
 use Rattle.steps.proofs.Granted.{Granted}
 
 -- wk alone reads, and neither writes nor sends
 pub weak-no-write : needMet Write wkAlone ≡ false
-unfolding needMet
+unfolding rows worthOf needMet
 weak-no-write = refl
 
 pub weak-no-send : needMet Send wkAlone ≡ false
-unfolding needMet
+unfolding rows worthOf needMet
 weak-no-send = refl
 
 -- where the target is ---------------------------------------------------------------
@@ -43,12 +45,12 @@ module _ (t : Table) (C : Clean) (v : Isolated t C) (a s : ℕ) (need : Need) (g
 
 -- what a fetch takes: the capability itself, wk alone over the same target, or nothing
 pub fetched-elim : (P : Capability → Type 0) (r : ℕ) (c : Capability) → (hasRd r ≡ true → P c) → (hasRd r ≡ false → 1 ≤ c .rights → P (record { target = c .target; rights = 4 })) → P emptySlot → P (fetched r c)
-unfolding fetched weaken needMet
+unfolding rows worthOf needMet fetched
 fetched-elim P r c f g h = byCases (hasRd r)
     (λ e. rw (e, fetched) (f e))
-    (λ e. rw (e, fetched) (byCases (needMet ReadOrWeak (c .rights))
-    (λ q. rw (q, weaken) (g e (byEq (c .rights) 0 (λ z. absurd (false≢true (rw z at q))) (λ z. omega arith))))
-    (λ q. rw (q, weaken) h)))
+    (λ e. rw (e, fetched) (weaken-elim P c
+    (λ q. g e (byEq (c .rights) 0 (λ z. absurd (false≢true (rw z at q))) (λ z. omega arith)))
+    h))
 
 -- records that fit --------------------------------------------------------------------
 pub fits-live : (t : Table) (n : ℕ) (r : Record) → Sound t → n < 64 → statusAt t n ≡ 1 → r .status ≡ 1 → r .kind ≤ 1

@@ -8,7 +8,7 @@ use Rattle.mask.proofs.Tests.{byCases, clash, or-none}
 use Rattle.table.specs.declared.Table.{Table}
 use Rattle.table.specs.Cells.{slotAt, hasRd}
 use Rattle.table.proofs.Cells.{Sized}
-use Rattle.refusals.specs.declared.Need.the-variants.{ReadOrWeak, Write}
+use Rattle.rights.specs.declared.Need.the-variants.{ReadOrWeak, Write}
 use Rattle.refusals.specs.declared.Reply.the-variants.{Done}
 use Rattle.requests.specs.Asks.{read, write, fetch, store, revoke}
 use Rattle.refusals.specs.Replies.{isDone}

@@ -14,6 +14,7 @@ use Rattle.table.specs.declared.Table.{Table}
 use Rattle.table.specs.Cells.{IsTable, emptySlot, recordAt, slotAt, putRecord, putSlot}
 use Rattle.table.specs.Soundness.{stockSound, soundAt, sound}
 use Rattle.table.proofs.Cells.{record-other, slot-other}
+use Rattle.rights.specs.Rows as Rights
 use Rattle.relation.specs.Relation.{Right, rd, wr, wk, tx, takesPart, holdsIn}
 use Rattle.relation.specs.Closure.{grow, spread, only, reached, bothTakePart, holdsStrong, link, influencedSet}
 use Rattle.bounds.specs.StandIn.{listed, lowestFrom, standIn, testNode, testHeld, boundOf}
@@ -23,7 +24,7 @@ use Rattle.bounds.proofs.Weak.{weak-entries-free}
 use Rattle.confinement.specs.Refusals.{verdictNumber, badMembers, badEntry, badList, allListed, passes, badHeld, memberHeld, verdictOf}
 use Rattle.refusals.specs.declared.Reply.the-variants.{Done}
 use Rattle.requests.specs.Asks.{read, allocate}
-use Rattle.refusals.specs.Refusals as Rows
+use Rattle.refusals.specs.Refusals as Refusals
 use Rattle.effects.specs.Effects.{stockLess, allocated, effect}
 use Rattle.copies.specs.Copies.{landed, copyPairs}
 use Rattle.steps.specs.Steps.{after, runTable}
@@ -99,18 +100,18 @@ who-is-clean = (refl, refl, refl, refl, refl, refl)
 pub at-read : Table
 at-read = after other (allocate 0 8 1 0 3 [])
 
-pub read-done : (Rows.refusal at-read (read 2 1) ≡ Done) × (recordAt at-read 2 .word ≡ 9) × (recordAt at-read 1 .word ≡ 6) × (recordAt (after at-read (read 2 1)) 2 .word ≡ 6)
-unfolding at-read other base alive over bits allBelow anyBelow excluding lessOf subsetOf stockSound soundAt sound Rows.badSlots Rows.badList Rows.badField Rows.needMet Rows.through Rows.throughSlot Rows.notInStock Rows.laterRows Rows.refusal landed copyPairs stockLess allocated effect after
+pub read-done : (Refusals.refusal at-read (read 2 1) ≡ Done) × (recordAt at-read 2 .word ≡ 9) × (recordAt at-read 1 .word ≡ 6) × (recordAt (after at-read (read 2 1)) 2 .word ≡ 6)
+unfolding at-read other base alive over bits allBelow anyBelow excluding lessOf subsetOf stockSound soundAt sound Refusals.badSlots Refusals.badList Refusals.badField Rights.rows Rights.worthOf Rights.needMet Refusals.through Refusals.throughSlot Refusals.notInStock Refusals.laterRows Refusals.refusal landed copyPairs stockLess allocated effect after
 read-done = (refl, refl, refl, refl)
 
 -- 2's word at the end: its own on the left, 1's on the right
 pub in-one-run : (recordAt (runTable blind left-list) 2 .word ≡ 5) × (recordAt (runTable other right-list) 2 .word ≡ 6)
-unfolding left-list right-list blind other base alive over bits allBelow anyBelow excluding lessOf subsetOf stockSound soundAt sound Rows.badSlots Rows.badList Rows.badField Rows.needMet Rows.through Rows.throughSlot Rows.notInStock Rows.laterRows Rows.refusal landed copyPairs stockLess allocated effect after runTable
+unfolding left-list right-list blind other base alive over bits allBelow anyBelow excluding lessOf subsetOf stockSound soundAt sound Refusals.badSlots Refusals.badList Refusals.badField Rights.rows Rights.worthOf Rights.needMet Refusals.through Refusals.throughSlot Refusals.notInStock Refusals.laterRows Refusals.refusal landed copyPairs stockLess allocated effect after runTable
 in-one-run = (refl, refl)
 
 -- the theorem at work
 left-asked : cleanRequests blind B left-list ≡ asked
-unfolding asked left-list blind base members short alive over bits allBelow anyBelow lessOf excluding subsetOf stockSound soundAt sound takesPart holdsIn grow spread only reached bothTakePart holdsStrong link influencedSet listed lowestFrom standIn testNode testHeld boundOf cleanAtStart cleanAfter cleanRequests Rows.badSlots Rows.badList Rows.badField Rows.needMet Rows.through Rows.throughSlot Rows.notInStock Rows.laterRows Rows.refusal landed copyPairs stockLess allocated effect after
+unfolding asked left-list blind base members short alive over bits allBelow anyBelow lessOf excluding subsetOf stockSound soundAt sound takesPart holdsIn grow spread only reached bothTakePart holdsStrong link influencedSet listed lowestFrom standIn testNode testHeld boundOf cleanAtStart cleanAfter cleanRequests Refusals.badSlots Refusals.badList Refusals.badField Rights.rows Rights.worthOf Rights.needMet Refusals.through Refusals.throughSlot Refusals.notInStock Refusals.laterRows Refusals.refusal landed copyPairs stockLess allocated effect after
 left-asked = refl
 
 pub unlisted-witnessed : Alike blind other B E left-list right-list

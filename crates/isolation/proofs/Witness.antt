@@ -19,6 +19,7 @@ use Rattle.table.specs.declared.Table.{Table}
 use Rattle.table.specs.Cells.{IsTable, emptySlot, unbornRecord, recordAt, putRecord, putSlot}
 use Rattle.table.specs.Soundness.{stockSound, soundAt, sound}
 use Rattle.table.proofs.Cells.{record-other, slot-other}
+use Rattle.rights.specs.Rows as Rights
 use Rattle.relation.specs.Relation.{takesPart, holdsIn}
 use Rattle.relation.specs.Closure.{grow, spread, only, reached, bothTakePart, holdsStrong, link, influencedSet}
 use Rattle.bounds.specs.StandIn.{listed, lowestFrom, standIn, testNode, testHeld, boundOf}
@@ -26,7 +27,7 @@ use Rattle.confinement.specs.Refusals.{verdictNumber, badMembers, badEntry, bad
 use Rattle.bounds.specs.Agreement.{AgreeOutside}
 use Rattle.refusals.specs.declared.Reply.the-variants.{Done}
 use Rattle.requests.specs.Asks.{Ask, read, write, allocate}
-use Rattle.refusals.specs.Refusals as Rows
+use Rattle.refusals.specs.Refusals as Refusals
 use Rattle.effects.specs.Effects.{stockLess, allocated, effect}
 use Rattle.copies.specs.Copies.{landed, copyPairs}
 use Rattle.steps.specs.Steps.{after}
@@ -151,7 +152,7 @@ who-is-clean = (refl, refl, refl, refl, refl)
 
 -- the member's write is done, and shows
 pub others-act : recordAt (after base (write 2 0 7)) 3 .word ≡ 7
-unfolding base members list alive over bits allBelow anyBelow stockSound soundAt sound Rows.badField Rows.needMet Rows.through Rows.throughSlot Rows.laterRows Rows.refusal effect after
+unfolding base members list alive over bits allBelow anyBelow stockSound soundAt sound Refusals.badField Rights.rows Rights.worthOf Rights.needMet Refusals.through Refusals.throughSlot Refusals.laterRows Refusals.refusal effect after
 others-act = refl
 
 -- the clean requests of the two lists, and the replies to them
@@ -159,15 +160,15 @@ unfoldable pub asked : List Ask
 asked = allocate 0 8 1 0 3 [] ∷ write 0 0 4 ∷ []
 
 left-asked : cleanRequests base C left-list ≡ asked
-unfolding asked left-list base members list alive over bits allBelow anyBelow lessOf excluding subsetOf stockSound soundAt sound takesPart holdsIn grow spread only reached bothTakePart holdsStrong link influencedSet listed lowestFrom standIn testNode testHeld boundOf cleanAtStart cleanAfter cleanRequests Rows.badSlots Rows.badList Rows.badField Rows.needMet Rows.through Rows.throughSlot Rows.notInStock Rows.laterRows Rows.refusal landed copyPairs stockLess allocated effect after
+unfolding asked left-list base members list alive over bits allBelow anyBelow lessOf excluding subsetOf stockSound soundAt sound takesPart holdsIn grow spread only reached bothTakePart holdsStrong link influencedSet listed lowestFrom standIn testNode testHeld boundOf cleanAtStart cleanAfter cleanRequests Refusals.badSlots Refusals.badList Refusals.badField Rights.rows Rights.worthOf Rights.needMet Refusals.through Refusals.throughSlot Refusals.notInStock Refusals.laterRows Refusals.refusal landed copyPairs stockLess allocated effect after
 left-asked = refl
 
 pub right-asked : cleanRequests other D right-list ≡ asked
-unfolding asked right-list other base members list alive over bits allBelow anyBelow lessOf excluding subsetOf stockSound soundAt sound takesPart holdsIn grow spread only reached bothTakePart holdsStrong link influencedSet listed lowestFrom standIn testNode testHeld boundOf cleanAtStart cleanAfter cleanRequests Rows.badSlots Rows.badList Rows.badField Rows.needMet Rows.through Rows.throughSlot Rows.notInStock Rows.laterRows Rows.refusal landed copyPairs stockLess allocated effect after
+unfolding asked right-list other base members list alive over bits allBelow anyBelow lessOf excluding subsetOf stockSound soundAt sound takesPart holdsIn grow spread only reached bothTakePart holdsStrong link influencedSet listed lowestFrom standIn testNode testHeld boundOf cleanAtStart cleanAfter cleanRequests Refusals.badSlots Refusals.badList Refusals.badField Rights.rows Rights.worthOf Rights.needMet Refusals.through Refusals.throughSlot Refusals.notInStock Refusals.laterRows Refusals.refusal landed copyPairs stockLess allocated effect after
 right-asked = refl
 
 pub left-done : cleanReplies base C left-list ≡ Done ∷ Done ∷ []
-unfolding left-list base members list alive over bits allBelow anyBelow lessOf excluding subsetOf stockSound soundAt sound takesPart holdsIn grow spread only reached bothTakePart holdsStrong link influencedSet listed lowestFrom standIn testNode testHeld boundOf cleanAtStart cleanAfter cleanReplies Rows.badSlots Rows.badList Rows.badField Rows.needMet Rows.through Rows.throughSlot Rows.notInStock Rows.laterRows Rows.refusal landed copyPairs stockLess allocated effect after
+unfolding left-list base members list alive over bits allBelow anyBelow lessOf excluding subsetOf stockSound soundAt sound takesPart holdsIn grow spread only reached bothTakePart holdsStrong link influencedSet listed lowestFrom standIn testNode testHeld boundOf cleanAtStart cleanAfter cleanReplies Refusals.badSlots Refusals.badList Refusals.badField Rights.rows Rights.worthOf Rights.needMet Refusals.through Refusals.throughSlot Refusals.notInStock Refusals.laterRows Refusals.refusal landed copyPairs stockLess allocated effect after
 left-done = refl
 
 -- the theorem at work: the same replies in the other run, and 8 clean in both with equal records

@@ -13,12 +13,13 @@ use Rattle.table.specs.Cells.{recordAt, slotAt, isEmpty, isBorn}
 use Rattle.table.specs.Soundness.{sound}
 use Rattle.table.proofs.Cells.{Sized}
 use Rattle.table.proofs.SoundFacts.{pos-born}
-use Rattle.refusals.specs.declared.Need.{Need}
+use Rattle.rights.specs.declared.Need.{Need}
+use Rattle.rights.specs.Rows.{needMet}
 use Rattle.refusals.specs.declared.Reply.{Reply}
 use Rattle.refusals.specs.declared.Reply.the-variants.{Done, FieldInvalid, ActorUnfit, SlotEmpty, TargetDead, RightAbsent}
 use Rattle.refusals.specs.declared.SlotCheck.{SlotCheck}
 use Rattle.refusals.specs.Replies.{isDone}
-use Rattle.refusals.specs.Refusals.{refuse, noObject, noSlot, unfit, needMet, otherStatus, through, targetOf, targetRecord, rightsOf, throughSlot}
+use Rattle.refusals.specs.Refusals.{refuse, noObject, noSlot, unfit, otherStatus, through, targetOf, targetRecord, rightsOf, throughSlot}
 use Rattle.refusals.specs.Helpers.{firstOf, badPlace, slotRows, slotCheckOf, SlotChecked}
 use Rattle.refusals.proofs.Targets.{target-below}
 

@@ -5,9 +5,9 @@ use mathlib.Core.Bool.{Bool, true, false, _||_}
 use Prim.Native.Nat.{ℕ, _≤_, _<_}
 use Rattle.table.specs.declared.Table.{Table}
 use Rattle.table.specs.Cells.{recordAt}
+use Rattle.rights.specs.declared.Need.{Need}
 use Rattle.requests.specs.declared.PairList.{PairList}
 use Rattle.requests.specs.Asks.{pairAt}
-use Rattle.refusals.specs.declared.Need.{Need}
 use Rattle.refusals.specs.declared.Reply.{Reply}
 use Rattle.refusals.specs.declared.Reply.the-variants.{Done, FieldInvalid, ActorUnfit, SlotEmpty, TargetDead, RightAbsent}
 use Rattle.refusals.specs.declared.SlotCheck.{SlotCheck}

@@ -9,11 +9,12 @@ use Rattle.mask.specs.Sets.{has, excluding, subsetOf}
 use Rattle.table.specs.declared.Capability.{Capability}
 use Rattle.table.specs.declared.Record.{Record}
 use Rattle.table.specs.declared.Table.{Table}
-use Rattle.table.specs.Cells.{recordAt, slotAt, isAlive, isBorn, isActive, isEmpty, hasRd, hasWr, hasWk, hasTx}
+use Rattle.table.specs.Cells.{recordAt, slotAt, isAlive, isBorn, isActive, isEmpty}
 use Rattle.table.specs.Soundness.{sound}
+use Rattle.rights.specs.declared.Need.the-variants.{ReadOrWeak, Write, Send}
+use Rattle.rights.specs.declared.Need.{Need}
+use Rattle.rights.specs.Rows.{needMet}
 use Rattle.requests.specs.declared.Pair.{Pair}
-use Rattle.refusals.specs.declared.Need.{Need}
-use Rattle.refusals.specs.declared.Need.the-variants.{ReadOrWeak, Write, Send}
 use Rattle.refusals.specs.declared.Reply.{Reply}
 use Rattle.refusals.specs.declared.Reply.the-variants.{Done, TableUnsound, FieldInvalid, ActorUnfit, SlotEmpty, TargetDead, RightAbsent, TargetPassive, ActorItself, NotInStock}
 use Rattle.requests.specs.Asks.{Ask, read, write, fetch, store, revoke, send, allocate, destroy, unknown, actorOf}
@@ -51,12 +52,6 @@ badField (unknown c a) = true
 -- row 3: "actor not alive, or passive"
 abbrev pub unfit : Record → Bool
 unfit actor = not (isAlive actor) || not (isActive actor)
-
--- whether the rights have what a request needs: "rd or wk", "wr", "tx"
-unfoldable pub needMet : Need → ℕ → Bool
-needMet ReadOrWeak rights = hasRd rights || hasWk rights
-needMet Write rights = hasWr rights
-needMet Send rights = hasTx rights
 
 -- the status that every request wants of its target
 abbrev pub alive : ℕ

@@ -1,23 +1,18 @@
 // What turns a request down, document 01, "Why something is turned down": the replies, and the checks of rows 2 to 6, which
 // requests share.
 use requests::PairList;
+use rights::Need;
+use rights::need_met;
 use table::Table;
 ghost use mathlib.Core.Path.{_≡_};
 ghost use mathlib.Core.Bool.{true};
 ghost use Rattle.table.specs.Soundness.{sound};
 ghost use Rattle.requests.specs.Asks.{pairsOf};
-ghost use Rattle.refusals.specs.Refusals.{badList, needMet};
+ghost use Rattle.refusals.specs.Refusals.{badList};
 ghost use Rattle.refusals.specs.Helpers.{firstOf, SlotChecked};
 
 // The status that every request wants of its target.
 pub const ALIVE: u8 = 1;
-
-// The right that a request needs on the slot that it uses.
-pub enum Need {
-    ReadOrWeak,
-    Write,
-    Send,
-}
 
 // Done, or why a request was refused.
 pub enum Reply {
@@ -41,17 +36,6 @@ pub struct SlotCheck {
     pub target: u8,
     pub rights: u8,
     pub kind: u8,
-}
-
-// Do the rights have what a request needs?
-pub fn need_met(need: Need, rights: u8) -> bool
-    ensures { λ r. ⌜ r ≡ needMet need rights ⌝ }
-{
-    match need {
-        Need::ReadOrWeak => mask::has(rights as u64, 0) | mask::has(rights as u64, 2),
-        Need::Write => mask::has(rights as u64, 1),
-        Need::Send => mask::has(rights as u64, 3),
-    }
 }
 
 // Is the list longer than 4, or is a slot of a pair above 7?

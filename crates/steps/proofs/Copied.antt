@@ -13,9 +13,9 @@ use Rattle.table.specs.declared.Table.{Table}
 use Rattle.table.specs.Cells.{IsTable, emptySlot, recordAt, slotAt, statusAt, stockAt, putRecord}
 use Rattle.table.proofs.Cells.{Sized, table-sized, sized-putRecord, slot-same, slot-other, slot-beside}
 use Rattle.table.proofs.SoundFacts.{Sound, sound-facts, bare-slot}
+use Rattle.rights.specs.declared.Need.the-variants.{Send}
 use Rattle.requests.specs.declared.Pair.{Pair}
 use Rattle.requests.specs.Asks.{Ask, send, allocate}
-use Rattle.refusals.specs.declared.Need.the-variants.{Send}
 use Rattle.refusals.specs.Replies.{isDone}
 use Rattle.refusals.specs.Refusals.{laterRows, refusal, targetOf}
 use Rattle.copies.specs.Copies.{copyPairs}

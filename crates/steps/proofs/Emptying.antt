@@ -13,16 +13,18 @@ use Rattle.mask.proofs.Tests.{byCases, byEq, clash, or-none}
 use Rattle.table.specs.declared.Capability.{Capability}
 use Rattle.table.specs.declared.Table.{Table}
 use Rattle.table.specs.Cells.{emptySlot, recordAt, slotAt, putSlot, isEmpty, isAlive}
+use Rattle.rights.proofs.Sentences.{needs-are-the-sentences}
+use Rattle.rights.proofs.Weakening.{weaken-unable}
 use Rattle.requests.specs.declared.Pair.{Pair}
 use Rattle.requests.specs.Asks.{Ask, read, write, fetch, store, revoke, send, allocate, destroy, unknown}
 use Rattle.refusals.specs.Replies.{isDone}
-use Rattle.refusals.specs.Refusals.{noSlot, badSlots, badList, badField, needMet, laterRows, refusal, targetOf, rightsOf}
+use Rattle.refusals.specs.Refusals.{noSlot, badSlots, badList, badField, laterRows, refusal, targetOf, rightsOf}
 use Rattle.effects.specs.Effects.{answerSlot, fullOver, effect, sent, allocated}
 use Rattle.effects.proofs.Emptied.{fetch-nothing, store-nothing, sent-full, allocated-full, revoked-empty, destroyed-other, destroyed-dead}
 use Rattle.copies.specs.Exactness.{CopyEmptiesNone, LeftOut, none, kept, left, LeftOutSame}
 use Rattle.copies.proofs.Landing.{copy-empties-none}
 use Rattle.copies.proofs.Pairs.{left-out-same}
-use Rattle.copies.proofs.Weakening.{fetched-weakened, weaken-unable}
+use Rattle.copies.proofs.Fetches.{fetched-weakened}
 use Rattle.steps.specs.Steps.{after, stepOf}
 use Rattle.steps.specs.Exactness.{RevokeDone, OnlyRevokeEmpties, RevokeEmpties, EmptyFetchKeeps, EmptyStoreKeeps, WeakenedFetchKeeps, EmptyPairsFree}
 use Rattle.steps.proofs.Refused.{refused-keeps, done-effects, step-done}
@@ -74,10 +76,10 @@ unfolding EmptyStoreKeeps
 empty-store-keeps t a s i j e = unchanged t (store a s i j) (store-nothing t a s i j e)
 
 pub weakened-fetch-keeps : WeakenedFetchKeeps
-unfolding WeakenedFetchKeeps EmptyFetchKeeps needMet
+unfolding WeakenedFetchKeeps EmptyFetchKeeps
 weakened-fetch-keeps t a s i j e f g =
     let c = slotAt t (targetOf t a s) i in
-    empty-fetch-keeps t a s i j (ap (λ (x : Capability). isEmpty x) (fetched-weakened (rightsOf t a s) c e ∙ weaken-unable c (rw (f, g) refl)))
+    empty-fetch-keeps t a s i j (ap (λ (x : Capability). isEmpty x) (fetched-weakened (rightsOf t a s) c e ∙ weaken-unable c (needs-are-the-sentences .readOrWeak (c .rights) ∙ rw (f, g) refl)))
 
 -- pairs left out ---------------------------------------------------------------------------------------------------
 module _ {source : ℕ → Capability} where

@@ -18,15 +18,16 @@ use Rattle.table.specs.Cells.{recordAt, slotAt, statusAt, stockAt, isAlive, isA
 use Rattle.table.specs.Soundness.{sound}
 use Rattle.table.proofs.Cells.{Sized, record-high}
 use Rattle.table.proofs.SoundFacts.{SlotFine, Sound}
+use Rattle.rights.specs.declared.Need.the-variants.{Write}
+use Rattle.rights.specs.declared.Need.{Need}
+use Rattle.rights.specs.Rows.{needMet}
 use Rattle.requests.specs.declared.Pair.{Pair}
-use Rattle.refusals.specs.declared.Need.{Need}
-use Rattle.refusals.specs.declared.Need.the-variants.{Write}
 use Rattle.refusals.specs.declared.Reply.{Reply}
 use Rattle.refusals.specs.declared.Reply.the-variants.{Done, ActorItself, NotInStock, TableUnsound, FieldInvalid, ActorUnfit, SlotEmpty, TargetDead, RightAbsent}
 use Rattle.requests.specs.Asks.{Ask, revoke, send, allocate, destroy, actorOf}
 use Rattle.refusals.specs.Replies.{isDone}
 use Rattle.refusals.proofs.Rows.{status-wanted, slot-placed}
-use Rattle.refusals.specs.Refusals.{refuse, noSlot, noObject, badSlots, badList, badField, unfit, needMet, alive, otherStatus, through, throughSlot, notInStock, targetOf, targetRecord, rightsOf, laterRows, refusal}
+use Rattle.refusals.specs.Refusals.{refuse, noSlot, noObject, badSlots, badList, badField, unfit, alive, otherStatus, through, throughSlot, notInStock, targetOf, targetRecord, rightsOf, laterRows, refusal}
 
 -- a row that did not turn the request down
 pub passed : (cause : Bool) (why rest : Reply) → isDone why ≡ false → isDone (refuse cause why rest) ≡ true → (cause ≡ false) × (isDone rest ≡ true)

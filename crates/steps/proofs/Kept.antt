@@ -11,13 +11,14 @@ use Rattle.table.specs.declared.Capability.{Capability}
 use Rattle.table.specs.declared.Table.{Table}
 use Rattle.table.specs.Cells.{IsTable, recordAt, slotAt, emptySlot, hasRd}
 use Rattle.table.proofs.Value.{RecordValue, SlotValue, record-value, slot-value, empty-value, slot-of, table-putRecord, table-putSlot}
-use Rattle.refusals.specs.declared.Need.the-variants.{ReadOrWeak}
+use Rattle.rights.specs.Rows.{weaken}
+use Rattle.rights.proofs.Weakening.{weakOver, weaken-elim}
 use Rattle.requests.specs.declared.Pair.{Pair}
 use Rattle.requests.specs.Asks.{Ask, read, write, fetch, store, revoke, send, allocate, destroy, unknown, InBits}
 use Rattle.refusals.specs.Replies.{isDone}
-use Rattle.refusals.specs.Refusals.{needMet, targetOf, rightsOf, refusal}
+use Rattle.refusals.specs.Refusals.{targetOf, rightsOf, refusal}
 use Rattle.effects.specs.Effects.{answerSlot, clearSlots, withWord, withStock, made, died, fullOver, stockLess, sent, allocated, destroyed, effect}
-use Rattle.copies.specs.Copies.{weaken, fetched, copyTo, copyPairs}
+use Rattle.copies.specs.Copies.{fetched, copyTo, copyPairs}
 use Rattle.copies.proofs.Landing.{landed-elim}
 use Rattle.steps.specs.Steps.{after, runTable}
 use Rattle.steps.proofs.Refused.{refused-keeps, done-effects}
@@ -39,10 +40,7 @@ union-lt a b = bits-lt 64 _
 
 -- and slots
 weaken-value : (c : Capability) → c .target < 2 ^ 8 → SlotValue (weaken c)
-unfolding weaken
-weaken-value c h = byCases (needMet ReadOrWeak (c .rights))
-    (λ e. rw (e, weaken) (slot-value (record { target = c .target; rights = 4 }) h (omega arith)))
-    (λ e. rw (e, weaken) empty-value)
+weaken-value c h = weaken-elim SlotValue c (λ e. slot-value (weakOver (c .target)) h (omega arith)) empty-value
 
 fetched-value : (rights : ℕ) (c : Capability) → c .target < 2 ^ 8 → c .rights < 2 ^ 8 → SlotValue (fetched rights c)
 unfolding fetched

@@ -12,9 +12,9 @@ use Rattle.mask.proofs.Tests.{or-none, or-false, or-assoc}
 use Rattle.table.specs.declared.Record.{Record}
 use Rattle.table.specs.declared.Table.{Table}
 use Rattle.table.specs.Cells.{recordAt, isActive}
+use Rattle.rights.specs.declared.Need.the-variants.{ReadOrWeak, Write, Send}
+use Rattle.rights.specs.declared.Need.{Need}
 use Rattle.requests.specs.declared.Pair.{Pair}
-use Rattle.refusals.specs.declared.Need.{Need}
-use Rattle.refusals.specs.declared.Need.the-variants.{ReadOrWeak, Write, Send}
 use Rattle.requests.specs.declared.PairList.{PairList}
 use Rattle.refusals.specs.declared.Reply.{Reply}
 use Rattle.refusals.specs.declared.Reply.the-variants.{Done, TargetPassive, ActorItself, NotInStock}

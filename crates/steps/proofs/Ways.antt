@@ -8,7 +8,7 @@ use borrow.Author.Tests.{not-true, not-false}
 use Rattle.table.specs.declared.Table.{Table}
 use Rattle.table.specs.Cells.{recordAt}
 use Rattle.table.specs.Soundness.{sound}
-use Rattle.refusals.specs.declared.Need.{Need}
+use Rattle.rights.specs.declared.Need.{Need}
 use Rattle.requests.specs.declared.PairList.{PairList}
 use Rattle.refusals.specs.declared.Reply.{Reply}
 use Rattle.refusals.specs.declared.Reply.the-variants.{Done, TableUnsound, FieldInvalid, ActorUnfit}

@@ -3,9 +3,9 @@
 use copies::fetched;
 use copies::landed;
 use refusals::ALIVE;
-use refusals::Need;
 use refusals::Reply;
 use refusals::check_slot;
+use rights::Need;
 use table::Capability;
 use table::Table;
 ghost use mathlib.Core.Path.{_≡_};

@@ -8,6 +8,7 @@ pub mod cases;
 pub mod convert;
 pub mod differential;
 pub mod instructions;
+pub mod rights;
 pub mod samples;
 pub mod stack;
 pub mod usage;

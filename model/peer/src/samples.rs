@@ -4,7 +4,7 @@ use yavrinks_model::confinement::Entry;
 use yavrinks_model::links::Links;
 use yavrinks_model::set;
 use yavrinks_model::step::{step_in_place, Code, Fields, Request, NO_REPLY};
-use yavrinks_model::table::{Capability, Record, Table, RD, SLOTS, TX, WK, WR};
+use yavrinks_model::table::{Capability, Record, Table, ALL_RIGHTS, RD, SLOTS, TX, WK, WR};
 use yavrinks_model::take_grant::{READ, STORE};
 use yavrinks_model::wire::decode_list;
 use yavrinks_tools::generate::{full_import, numbers_where, sound_table, ConfinementCase, Shape};
@@ -200,10 +200,10 @@ pub struct Keeping {
     pub request: Request,
 }
 
-/// Two requests that are done and leave every slot, since their copies come out empty: a send of four empty slots
-/// onto filled ones, and a fetch that is weakened to nothing, onto a filled slot too. But for those four all slots
-/// of all 64 objects are filled.
-pub fn keeping() -> [Keeping; 2] {
+/// Three requests that are done and leave every slot. The copies of two come out empty: a send of four empty slots
+/// onto filled ones, and a fetch that is weakened to nothing, onto a filled slot too. A third is a fetch that is
+/// weakened to what the slot holds already. But for those four all slots of all 64 objects are filled.
+pub fn keeping() -> [Keeping; 3] {
     let mut table = Table::unborn();
     for (n, record) in table.records.iter_mut().enumerate() {
         record.status = 1;
@@ -222,6 +222,9 @@ pub fn keeping() -> [Keeping; 2] {
     for j in 4..SLOTS {
         sender.record_mut(actor).slots[j] = Capability::EMPTY;
     }
+    let mut weak = table.clone();
+    weak.record_mut(actor).slots[7] = Capability::new(target, WK);
+    weak.record_mut(target).slots[7] = Capability::new(target, ALL_RIGHTS);
     let send = Request::Send {
         actor,
         t: 0,
@@ -238,6 +241,11 @@ pub fn keeping() -> [Keeping; 2] {
         Keeping {
             name: "fetch weakened to nothing",
             table,
+            request: fetch.clone(),
+        },
+        Keeping {
+            name: "fetch weakened to wk",
+            table: weak,
             request: fetch,
         },
     ]

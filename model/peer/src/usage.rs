@@ -17,10 +17,10 @@ usage: yavrinks-peer COMMAND
 
   bench
       Times each call of the archive and of the model in turn, on table K and on a table with every
-      slot filled, a send and a fetch whose copies come out empty, the test where members hold 64 wk
-      alone and the list is empty, the longest import and a small one, the chain against the test that
-      it begins with, and the step on a lent table against one soundness scan in C. Run it on a machine
-      that does nothing else.
+      slot filled, a send and a fetch whose copies come out empty, a fetch that is weakened to wk, the
+      test where members hold 64 wk alone and the list is empty, the longest import and a small one,
+      the chain against the test that it begins with, and the step on a lent table against one
+      soundness scan in C. Run it on a machine that does nothing else.
 
   stack
       Measures how many bytes of stack each call of the archive takes (x86-64 alone). The header

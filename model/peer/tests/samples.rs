@@ -55,17 +55,28 @@ fn the_test_with_64_wk_unlisted_is_accepted_with_an_empty_bound() {
     assert_eq!(found, (0, 0));
 }
 
-/// The send copies four empty slots, the fetch one with rights 10 through wk and tx; each goes to a filled slot.
+/// The send copies four empty slots, the first fetch one with rights 10 through wk and tx, the other all rights through
+/// the same: its copy is wk, which is what stands there. Each goes to a filled slot.
 #[test]
-fn the_empty_copies_that_are_measured_keep_every_slot() {
-    let kinds = [EmptyKind::Send, EmptyKind::WeakenedWrTx];
-    for (case, kind) in keeping().into_iter().zip(kinds) {
+fn the_copies_that_are_measured_keep_every_slot() {
+    let kinds = [
+        vec![EmptyKind::Send],
+        vec![EmptyKind::WeakenedWrTx],
+        Vec::new(),
+    ];
+    assert_eq!(keeping().len(), kinds.len());
+    for (case, kinds) in keeping().into_iter().zip(kinds) {
         let (reply, after) = step(&case.table, &case.request);
         assert_eq!(reply, 0, "{}", case.name);
         for n in 0..64 {
             assert_eq!(after.record(n).slots, case.table.record(n).slots);
         }
-        assert_eq!(empty_kinds(&case.table, &case.request), [kind]);
+        assert_eq!(
+            empty_kinds(&case.table, &case.request),
+            kinds,
+            "{}",
+            case.name
+        );
     }
 }
 

@@ -9,6 +9,8 @@ pub mod definitions;
 pub mod empty_kinds;
 pub mod generate;
 pub mod progress;
+pub mod repository;
+pub mod rights;
 pub mod rng;
 pub mod rows;
 pub mod shared;

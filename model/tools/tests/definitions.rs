@@ -288,6 +288,51 @@ fn copies_are_stated_with_what_the_slot_then_holds() {
     assert!(text.contains(statement), "{text}");
 }
 
+/// wr and tx, rd and wk, and a byte with bits above.
+#[test]
+fn rights_are_stated_with_what_they_are_worth() {
+    let case = Case::new(Question::Worth {
+        values: vec![10, 5, 242],
+    });
+    let text = declarations(&case, 5, "A.b");
+    assert!(text.starts_with("-- case 5: worth of rights, done\n"));
+    assert!(text.contains("values-0005 = 10 ∷ 5 ∷ 242 ∷ []\n"));
+    let statement = "case-0005 : _≡_ {A = List Worth} (map worthOf values-0005) \
+                     ((0, false, true, true) ∷ (4, true, false, false) ∷ (0, false, true, false) ∷ [])\n";
+    assert!(text.contains(statement), "{text}");
+}
+
+#[test]
+fn needs_are_stated_with_the_rights_that_meet_them() {
+    let case = Case::new(Question::Needs {
+        values: vec![10, 5, 242],
+    });
+    let text = declarations(&case, 5, "A.b");
+    assert!(text.starts_with("-- case 5: needed rights, done\n"));
+    let met = |need: &str| format!("map (needMet {need}) values-0005");
+    let statement = format!(
+        "case-0005 : _≡_ {{A = List Bool × List Bool × List Bool}} ({}, {}, {}) \
+         (false ∷ true ∷ false ∷ [], true ∷ false ∷ true ∷ [], true ∷ false ∷ false ∷ [])\n",
+        met("ReadOrWeak"),
+        met("Write"),
+        met("Send")
+    );
+    assert!(text.contains(&statement), "{text}");
+}
+
+#[test]
+fn capabilities_are_stated_with_what_they_are_weakened_to() {
+    let case = Case::new(Question::Weakening {
+        held: [10, 5, 0].map(|rights| Capability::new(3, rights)).to_vec(),
+    });
+    let text = declarations(&case, 5, "A.b");
+    assert!(text.starts_with("-- case 5: weakened rights, done\n"));
+    assert!(text.contains("held-0005 = slot 3 10 ∷ slot 3 5 ∷ slot 3 0 ∷ []\n"));
+    let statement = "case-0005 : _≡_ {A = List Capability} (map weaken held-0005) \
+                     (free ∷ slot 3 4 ∷ free ∷ [])\n";
+    assert!(text.contains(statement), "{text}");
+}
+
 /// Entity 0 has Store and Grant to 1 in slot 1, and nothing that is kept in slot 0.
 #[test]
 fn an_import_is_stated_with_the_table_that_it_becomes() {
@@ -378,7 +423,7 @@ fn the_default_run_asks_everything() {
         .iter()
         .map(|case| (case.question.subject(), case.answer.number()))
         .collect();
-    let expected: [(&str, &[u8]); 21] = [
+    let expected: [(&str, &[u8]); 24] = [
         ("clean along a run", &[0]),
         ("1 read", &[0, 1, 2, 3, 4, 5, 6]),
         ("2 write", &[0, 1, 2, 3, 4, 5, 6]),
@@ -390,6 +435,9 @@ fn the_default_run_asks_everything() {
         ("8 destroy", &[0, 1, 2, 3, 4, 5, 6, 8]),
         ("unknown code", &[1, 2]),
         ("where a copy lands", &[0]),
+        ("worth of rights", &[0]),
+        ("needed rights", &[0]),
+        ("weakened rights", &[0]),
         ("confinement test", &[0, 1, 10, 11, 12, 13]),
         ("rights of a member", &[0, 12]),
         ("chain to an object", &[0, 1, 10, 11, 12, 13, 18, 19]),
@@ -537,6 +585,26 @@ fn all_rights_are_asked_with_all_lists() {
     assert!(lists.contains(&vec![(false, 15)]));
 }
 
+/// Every byte is asked for with what it is worth, with each need, and over 0 and another target.
+#[test]
+fn every_byte_is_asked_as_rights() {
+    let mut weakened = Vec::new();
+    for case in cases_of(1, 0, 1) {
+        match &case.question {
+            Question::Worth { values } | Question::Needs { values } => {
+                assert!(values.iter().copied().eq(0..=255));
+            }
+            Question::Weakening { held } => {
+                assert!(held.iter().map(|one| one.rights).eq(0..=255));
+                assert!(held.iter().all(|one| one.target == held[0].target));
+                weakened.push(held[0].target == 0);
+            }
+            _ => {}
+        }
+    }
+    assert_eq!(weakened, [true, false]);
+}
+
 #[test]
 fn wrong_answers_differ_from_the_right_ones() {
     let cases = cases_of(6, 24, 1);
@@ -554,12 +622,21 @@ fn wrong_answers_differ_from_the_right_ones() {
     // Of the copies on a filled slot, every rights value and the empty one.
     let is_landing = |case: &&Case| matches!(case.question, Question::Landing { .. });
     assert_eq!(wrong.iter().filter(is_landing).count(), 16);
+    // Of the values 0 to 15, four things that they are worth, three needs, and what they are weakened to.
+    let is_worth = |case: &&Case| match &case.question {
+        Question::Worth { values } | Question::Needs { values } => values.len() == 16,
+        Question::Weakening { held } => held.len() == 16,
+        _ => false,
+    };
+    let worth = wrong.iter().filter(is_worth).count();
+    assert_eq!(worth, (4 + 3 + 1) * 16);
     // Of steps a wrong number, wrong content, and the ten kinds where an empty copy emptied a slot.
     let is_step = |case: &&Case| matches!(case.question, Question::Step { .. });
     assert_eq!(wrong.iter().filter(is_step).count(), 2 + 10);
     // Of each of eight other kinds a wrong number and wrong content, of least chains wrong content.
     let others = 2 * 8 + 1;
-    assert_eq!(wrong.len(), Part::ALL.len() + 3 + 2 * 16 + 16 + 12 + others);
+    let listed = 3 + 2 * 16 + 16 + worth + 12;
+    assert_eq!(wrong.len(), Part::ALL.len() + listed + others);
 }
 
 /// Statements by the rule from before 2.4: each says that some filled slot is emptied.

@@ -3,7 +3,6 @@
 
 use std::collections::BTreeMap;
 use std::fs;
-use std::path::Path;
 
 use yavrinks_model::chain::chain as shown_chain;
 use yavrinks_model::confinement::confinement_test;
@@ -13,6 +12,7 @@ use yavrinks_model::table::{Capability, TX};
 use yavrinks_model::take_grant::import;
 use yavrinks_tools::copies::reply_slot;
 use yavrinks_tools::generate::{can_meet, StepCase};
+use yavrinks_tools::repository::root;
 use yavrinks_tools::shared::{shared_imports, shared_tests};
 use yavrinks_tools::vectors::{
     access_cases, chain, edges, image_cases, import_cases, output, parts, shown_cases, step_cases,
@@ -255,7 +255,7 @@ fn imports_reach_every_number_and_are_short() {
 /// A change of the generator or of the model is to be followed by the command `vectors`.
 #[test]
 fn the_files_of_the_program_are_up_to_date() {
-    let folder = Path::new(env!("CARGO_MANIFEST_DIR")).join("../../crates/vectors");
+    let folder = root().join("crates/vectors");
     let parts = parts();
     // The chain's file serves two parts.
     let sizes: BTreeMap<&str, usize> = parts

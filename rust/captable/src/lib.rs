@@ -221,7 +221,7 @@ pub const TX: u8 = 8;
 
 /// The version of the calls that this crate was written for: 65,536 times the first number, 256 times the
 /// second, and the third.
-pub const VERSION: u32 = 0x00_05_00;
+pub const VERSION: u32 = 0x00_06_00;
 
 /// The version of the calls that were linked. Where it is not [`VERSION`], the archive is another than the
 /// crate was written for.

@@ -12,7 +12,8 @@ use crate::Set;
 pub struct Capability {
     /// The number of the object that the capability is over.
     pub target: u8,
-    /// The rights, added up.
+    /// The rights, added up. `docs/RIGHTS.md` has a row for each of the sixteen values: what it may be used for,
+    /// and what a fetch without rd makes of it.
     pub rights: u8,
 }
 

@@ -21,7 +21,8 @@ const NOTE: &str = "\
 Nanoseconds a call are the least of the rounds. Below 1.00 the proved call is faster. Middle, low and
 high are of the ratios of the single rounds. By value both sides copy the table. Lent, an allocate and a
 destroy are undone after each call, on both sides alike. The time of the scan in C stands under proved.
-The two requests whose copies come out empty leave filled slots as they were.
+Requests whose copies come out empty, and a fetch that is weakened to what is there, leave filled slots as
+they were.
 A chain is that to the object farthest off. With 64 wk unlisted, eight members hold wk alone in all their
 slots and the list is empty. A full import has 64 entities of eight capabilities, a small one three.
 ";
@@ -72,7 +73,7 @@ pub fn command() -> ExitCode {
     ExitCode::SUCCESS
 }
 
-/// The requests whose copies come out empty, in both forms of the step.
+/// The requests that leave every slot, in both forms of the step.
 fn keeping_steps(timing: &mut Timing) {
     for case in keeping() {
         timing.line(&format!("{} by value", case.name), || {

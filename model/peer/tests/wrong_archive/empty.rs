@@ -6,93 +6,30 @@ use std::cell::Cell;
 use captable::raw;
 use yavrinks_model::step::{Code, Request, NO_REPLY};
 use yavrinks_model::table::{Capability, Table, ACTIVE, ALIVE};
-use yavrinks_model::wire::{encode, request_in};
-use yavrinks_peer::archive::{Archive, Calls};
-use yavrinks_peer::convert::{to_model, to_raw};
-use yavrinks_tools::copies::{copies, landed_by, reply_slot, Copied};
+use yavrinks_model::wire::encode;
+use yavrinks_peer::convert::to_raw;
+use yavrinks_tools::copies::reply_slot;
 
+use super::done::{outcome, ByValue, Done, Lent};
 use super::{is_found, told_of};
 
-/// A request that was done: the table before it and the one after it, and the reply.
-struct Done {
-    before: Table,
-    request: Request,
-    after: Table,
-    reply: u8,
-}
-
-/// What an archive makes of it.
+/// What an archive makes of a request that was done.
 type Wrong = fn(&mut Done);
 
-impl Done {
-    fn is(&self, code: Code) -> bool {
-        self.request.code() == code.number()
-    }
-
-    fn copies(&self) -> Vec<Copied> {
-        copies(&self.before, &self.request)
-    }
-
-    /// Lands the copies by a rule, which is given what the slot holds and the copy. A reply slot comes last.
-    fn land_by(&mut self, rule: impl Fn(Capability, &Copied) -> Capability) {
-        if let Some((holder, slots)) = landed_by(&self.before, &self.request, rule) {
-            self.after.record_mut(holder).slots = slots;
-        }
-    }
-
-    /// Lands every copy, the empty ones too.
-    fn land_all(&mut self) {
-        self.land_by(|_, copied| copied.copy());
-    }
-}
-
-/// What the archive answers, and what becomes of it if the request was done.
-fn outcome(wrong: Wrong, table: &raw::Table, bytes: &mut [u8]) -> raw::Outcome {
-    let mut given = *table;
-    let right = Archive.stepped(&mut given, bytes);
-    if right.number != 0 {
-        return right;
-    }
-    let mut done = Done {
-        before: to_model(table),
-        request: request_in(bytes).expect("what was done is a request"),
-        after: to_model(&right.table),
-        reply: 0,
-    };
-    wrong(&mut done);
-    raw::Outcome {
-        table: to_raw(&done.after),
-        number: done.reply,
-    }
-}
-
-struct ByValue(Wrong);
-
-impl Calls for ByValue {
-    fn stepped(&self, table: &mut raw::Table, request: &mut [u8]) -> raw::Outcome {
-        outcome(self.0, table, request)
-    }
-}
-
-struct Lent(Wrong);
-
-impl Calls for Lent {
-    fn step(&self, table: &mut raw::Table, request: &mut [u8]) -> u8 {
-        let outcome = outcome(self.0, table, request);
-        *table = outcome.table;
-        outcome.number
-    }
+/// The steps of such an archive.
+fn steps(wrong: Wrong) -> impl Fn(&raw::Table, &mut [u8]) -> raw::Outcome {
+    move |table, bytes| outcome(wrong, table, bytes)
 }
 
 /// Is an archive with such slots found out, whichever form of the step is wrong?
 #[track_caller]
 fn slots_are_found(wrong: Wrong) {
     is_found(
-        &ByValue(wrong),
+        &ByValue(steps(wrong)),
         "captable_step_by_value",
         "table given back",
     );
-    is_found(&Lent(wrong), "captable_step", "table left");
+    is_found(&Lent(steps(wrong)), "captable_step", "table left");
 }
 
 fn empty_copies_empty(done: &mut Done) {
@@ -308,9 +245,12 @@ fn empty_copies_that_are_refused_are_found() {
     for (call, told) in [
         (
             "captable_step_by_value",
-            told_of(&ByValue(empty_copies_are_refused)),
+            told_of(&ByValue(steps(empty_copies_are_refused))),
         ),
-        ("captable_step", told_of(&Lent(empty_copies_are_refused))),
+        (
+            "captable_step",
+            told_of(&Lent(steps(empty_copies_are_refused))),
+        ),
     ] {
         let expected = format!("{call} differs from the model in: number");
         assert!(told.starts_with(&expected), "{told}");

@@ -1,6 +1,8 @@
 //! An archive with one thing wrong is found out by the comparison, and the linked one is not.
 
+mod done;
 mod empty;
+mod rights;
 mod weak;
 
 use captable::raw;

@@ -2,6 +2,7 @@
 //! Every expected value is computed here, by the model; only the shared tests and steps come with their own.
 
 use crate::generate::{ConfinementCase, ShownCase};
+use crate::rights::{Cells, Row};
 use crate::rows::rows;
 use yavrinks_model::access::potential_access;
 use yavrinks_model::chain::chain;
@@ -9,7 +10,7 @@ use yavrinks_model::confinement::{confinement_test, passes, Entry, MAX_ENTRIES};
 use yavrinks_model::image::{read, write};
 use yavrinks_model::refusal::Refusal;
 use yavrinks_model::runs::{clean_at_start, clean_part, run, CleanPart};
-use yavrinks_model::step::{landed, step, Code, Request};
+use yavrinks_model::step::{landed, step, weaken, Code, Request};
 use yavrinks_model::table::{Capability, Table};
 use yavrinks_model::take_grant::import;
 use yavrinks_model::wire;
@@ -44,6 +45,18 @@ pub enum Question {
     Landing {
         held: Capability,
         copies: Vec<Capability>,
+    },
+    /// What some rights values are worth, whole.
+    Worth {
+        values: Vec<u8>,
+    },
+    /// Which of some rights values have what a request needs, for each of the three needs.
+    Needs {
+        values: Vec<u8>,
+    },
+    /// What some capabilities are weakened to.
+    Weakening {
+        held: Vec<Capability>,
     },
     Run {
         table: Table,
@@ -88,8 +101,10 @@ pub enum Answer {
     /// The clean objects at the start, and what they have of the run.
     Clean(u64, CleanPart),
     Table(u8, Table),
-    /// What the slot holds after each copy.
-    Landing(Vec<Capability>),
+    /// What the slot holds after each copy, or what each capability is weakened to.
+    Slots(Vec<Capability>),
+    /// What each rights value is worth.
+    Worth(Vec<Cells>),
     /// The replies of a run and its last table.
     Run(Vec<u8>, Table),
     Bound(u8, u64),
@@ -124,6 +139,9 @@ impl Case {
 const CLEAN: &str = "clean along a run";
 const UNKNOWN: &str = "unknown code";
 const LANDING: &str = "where a copy lands";
+const WORTH: &str = "worth of rights";
+const NEEDS: &str = "needed rights";
+const WEAKENING: &str = "weakened rights";
 const RUN: &str = "run, last reply";
 const TEST: &str = "confinement test";
 const PASSING: &str = "rights of a member";
@@ -140,7 +158,7 @@ const LIST_BYTES: &str = "list as bytes";
 pub fn subjects() -> Vec<String> {
     let mut subjects = vec![CLEAN.to_string()];
     subjects.extend(Code::ALL.map(Code::label));
-    let steps = [UNKNOWN, LANDING, RUN];
+    let steps = [UNKNOWN, LANDING, WORTH, NEEDS, WEAKENING, RUN];
     let wholes = [TEST, PASSING, CHAIN, LEAST_CHAIN, ACCESS];
     let bytes = [READ, WRITTEN, IMPORT, REQUEST_BYTES, LIST_BYTES];
     let others = steps.into_iter().chain(wholes).chain(bytes);
@@ -157,7 +175,14 @@ impl Question {
             } => clean_answer(start, requests),
             Question::Step { table, request } => table_answer(step(table, request)),
             Question::Landing { held, copies } => {
-                Answer::Landing(copies.iter().map(|&copy| landed(*held, copy)).collect())
+                Answer::Slots(copies.iter().map(|&copy| landed(*held, copy)).collect())
+            }
+            Question::Worth { values } | Question::Needs { values } => {
+                let cells = values.iter().map(|&value| Row::of_model(value).cells);
+                Answer::Worth(cells.collect())
+            }
+            Question::Weakening { held } => {
+                Answer::Slots(held.iter().copied().map(weaken).collect())
             }
             Question::Run { table, requests } => {
                 let (replies, after) = run(table, requests);
@@ -200,6 +225,9 @@ impl Question {
                 None => UNKNOWN,
             },
             Question::Landing { .. } => LANDING,
+            Question::Worth { .. } => WORTH,
+            Question::Needs { .. } => NEEDS,
+            Question::Weakening { .. } => WEAKENING,
             Question::Run { .. } => RUN,
             Question::Test { .. } => TEST,
             Question::Passing { .. } => PASSING,
@@ -229,7 +257,7 @@ impl Answer {
             Answer::Ask(Request::Unknown { .. }) => 2,
             Answer::Entries(list) if list.len() > MAX_ENTRIES => 11,
             Answer::Passing(all) if all.contains(&false) => Refusal::RightNotListed.number(),
-            Answer::Clean(..) | Answer::Landing(_) => 0,
+            Answer::Clean(..) | Answer::Slots(_) | Answer::Worth(_) => 0,
             Answer::Ask(_) | Answer::Entries(_) | Answer::Passing(_) => 0,
         }
     }

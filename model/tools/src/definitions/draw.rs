@@ -5,6 +5,7 @@ use super::cases::{Answer, Case, Question};
 use super::clean::clean_run;
 use super::landing::{landing, LANDINGS};
 use super::passing::{passing, PASSING_LISTS};
+use super::worth::{worth, WORTH_QUESTIONS};
 use crate::empty_kinds::EmptyKind;
 use crate::generate::{
     any_damage, any_sound_table, can_meet, confinement_case, empty_copy_case, full_import,
@@ -83,7 +84,7 @@ type Draw = fn(&mut Rng, usize) -> Question;
 /// The questions of a run. Each kind has a generator of its own, so that the number of one kind
 /// does not change the questions of another.
 pub fn questions(seed: u64, counts: &Counts) -> Vec<Question> {
-    let in_a_round: [(usize, Draw); 15] = [
+    let in_a_round: [(usize, Draw); 16] = [
         (aims().len(), aimed_step),
         (3, telling_step),
         (4, run),
@@ -99,6 +100,7 @@ pub fn questions(seed: u64, counts: &Counts) -> Vec<Question> {
         (PASSING_LISTS, passing),
         (EmptyKind::ALL.len(), empty_copy),
         (LANDINGS, landing),
+        (WORTH_QUESTIONS, worth),
     ];
     let rounds = in_a_round.map(|(count, draw)| (counts.rounds * count, draw));
     let mut seeds = Rng::new(seed);

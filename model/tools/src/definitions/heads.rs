@@ -21,6 +21,9 @@ use Rattle.mask.specs.Sets.{bits}
 use Rattle.table.specs.declared.Capability.{Capability}
 use Rattle.table.specs.declared.Record.{Record}
 use Rattle.table.specs.declared.Table.{Table}
+use Rattle.rights.specs.declared.Need.the-variants.{ReadOrWeak, Write, Send}
+use Rattle.rights.specs.declared.Worth.{Worth}
+use Rattle.rights.specs.Rows.{worthOf, needMet, weaken}
 use Rattle.requests.specs.declared.Pair.{Pair}
 use Rattle.requests.specs.Asks.{Ask, read, write, fetch, store, revoke, send, allocate, destroy, unknown}
 use Rattle.refusals.specs.Replies.{number}

@@ -17,6 +17,7 @@ pub mod statements;
 pub mod summary;
 pub mod terms;
 pub mod verdicts;
+mod worth;
 pub mod wrong;
 
 pub use options::Options;

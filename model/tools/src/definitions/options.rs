@@ -1,7 +1,8 @@
 //! The options of the command.
 
 use super::draw::Counts;
-use std::path::{Path, PathBuf};
+use crate::repository;
+use std::path::PathBuf;
 
 #[derive(Clone, Debug, PartialEq, Eq)]
 pub struct Options {
@@ -15,14 +16,13 @@ pub struct Options {
 }
 
 impl Default for Options {
-    /// The package lies in the repository whose definitions it checks, below the model.
+    /// The package lies in the repository whose definitions it checks.
     fn default() -> Options {
-        let package = Path::new(env!("CARGO_MANIFEST_DIR"));
         Options {
             seed: 1,
             counts: Counts::default(),
             keep: None,
-            root: package.ancestors().nth(2).unwrap_or(package).to_path_buf(),
+            root: repository::root(),
         }
     }
 }

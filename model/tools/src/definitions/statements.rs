@@ -4,12 +4,13 @@
 use super::cases::{Answer, Case, Part, Question};
 use super::terms;
 use crate::generate::{ConfinementCase, ShownCase};
+use crate::rights::{Cells, Column};
 use yavrinks_model::confinement::Entry;
 use yavrinks_model::links::Links;
 use yavrinks_model::runs::CleanPart;
 use yavrinks_model::set;
 use yavrinks_model::step::Request;
-use yavrinks_model::table::{Capability, Table};
+use yavrinks_model::table::{Capability, Table, WK};
 
 /// The room for the numbers of a chain.
 const CHAIN_ROOM: usize = 63;
@@ -39,6 +40,19 @@ struct Writer<'a> {
     /// The names of the values above, which the statement has to look into too.
     own: Vec<String>,
     text: String,
+}
+
+/// The needs by their names in the definitions, with the columns that are about them.
+const NEEDS: [(&str, Column); 3] = [
+    ("ReadOrWeak", Column::Reads),
+    ("Write", Column::Writes),
+    ("Send", Column::Sends),
+];
+
+/// What a rights value is worth: the rights that a weakened copy has, and the three needs.
+fn worth([weakened, reads, writes, sends]: &Cells) -> String {
+    let weakened = if *weakened { WK } else { 0 };
+    format!("({weakened}, {reads}, {writes}, {sends})")
 }
 
 /// The number of the stand-in among 64: that of the lowest member.
@@ -73,6 +87,17 @@ impl Writer<'_> {
                 let copies = terms::capabilities(copies.iter().copied());
                 let copies = self.value("copies", "List Capability", &copies);
                 format!("map (landed {held}) {copies}")
+            }
+            Question::Worth { values } => format!("map worthOf {}", self.bytes("values", values)),
+            Question::Needs { values } => {
+                let values = self.bytes("values", values);
+                let maps = NEEDS.map(|(need, _)| format!("map (needMet {need}) {values}"));
+                maps.join(", ")
+            }
+            Question::Weakening { held } => {
+                let held = terms::capabilities(held.iter().copied());
+                let held = self.value("held", "List Capability", &held);
+                format!("map weaken {held}")
             }
             Question::Run { table, requests } => {
                 let table = self.table("table", table);
@@ -162,9 +187,23 @@ impl Writer<'_> {
                 let table = self.table_after(question, table);
                 ("ℕ × Table", format!("({number}, {table})"))
             }
-            Answer::Landing(slots) => {
+            Answer::Slots(slots) => {
                 let slots = terms::capabilities(slots.iter().copied());
                 ("List Capability", format!("({slots})"))
+            }
+            Answer::Worth(rows) if matches!(question, Question::Needs { .. }) => {
+                let met = NEEDS.map(|(_, column)| {
+                    let met = rows.iter().map(|cells| cells[column as usize]);
+                    terms::truths(&met.collect::<Vec<_>>())
+                });
+                (
+                    "List Bool × List Bool × List Bool",
+                    format!("({})", met.join(", ")),
+                )
+            }
+            Answer::Worth(rows) => {
+                let rows: Vec<String> = rows.iter().map(worth).collect();
+                ("List Worth", format!("({})", terms::list(&rows)))
             }
             Answer::Run(replies, table) => {
                 let replies = terms::bytes(replies);

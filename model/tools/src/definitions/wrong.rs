@@ -4,16 +4,18 @@
 use super::cases::{Answer, Case, Part, Question};
 use crate::copies::landed_by;
 use crate::empty_kinds::empty_kinds;
+use crate::rights::{all_cells, rows_of_model, with_altered, Column};
 use crate::rng::Rng;
 use std::mem::discriminant;
 use yavrinks_model::runs::CleanPart;
-use yavrinks_model::step::Request;
-use yavrinks_model::table::{Capability, Table, ACTIVE, ALIVE};
+use yavrinks_model::step::{weaken, Request};
+use yavrinks_model::table::{Capability, Table, ACTIVE, ALIVE, ALL_RIGHTS, WK};
 
 /// For every kind of question, a case with a wrong number and one with a right number and wrong
 /// content, as far as the given cases have such; of clean objects, one for each part that is asked; of
 /// imports also one that is refused and yet brings something in; of capabilities that pass and of copies that
-/// land, one for each that is asked about; of steps also some where an empty copy empties.
+/// land, one for each that is asked about; of what rights are worth, one for each thing that is said of the values
+/// 0 to 15; of steps also some where an empty copy empties.
 pub fn wrong_cases(rng: &mut Rng, cases: &[Case]) -> Vec<Case> {
     let mut wrong = Vec::new();
     let mut seen = Vec::new();
@@ -69,9 +71,13 @@ fn made_wrong(rng: &mut Rng, case: &Case) -> Vec<Case> {
         Answer::Passing(truths) => (0..truths.len())
             .map(|place| with_answer(case, other_truth(truths, place)))
             .collect(),
-        Answer::Landing(slots) => (0..slots.len())
-            .map(|place| with_answer(case, other_landing(&case.question, slots, place)))
-            .collect(),
+        Answer::Slots(slots) => match &case.question {
+            Question::Weakening { held } => wrong_weakening(held),
+            question => (0..slots.len())
+                .map(|place| with_answer(case, other_landing(question, slots, place)))
+                .collect(),
+        },
+        Answer::Worth(_) => wrong_worth(&case.question),
         answer if answer.number() == 0 => vec![with_answer(case, other_content(rng, answer))],
         answer => {
             let mut wrong = vec![with_answer(case, other_number(answer))];
@@ -97,7 +103,46 @@ fn other_landing(question: &Question, slots: &[Capability], place: usize) -> Ans
         let taken = slots[place];
         slots[place] = if taken == *held { copies[place] } else { *held };
     }
-    Answer::Landing(slots)
+    Answer::Slots(slots)
+}
+
+/// The values 0 to 15 alone, since the checker refuses a short list sooner; with each cell that is asked for in turn
+/// the other way round.
+fn wrong_worth(question: &Question) -> Vec<Case> {
+    let values = (0..=ALL_RIGHTS).collect();
+    let needs_alone = matches!(question, Question::Needs { .. });
+    let right = Case::new(match needs_alone {
+        true => Question::Needs { values },
+        false => Question::Worth { values },
+    });
+    let rows = rows_of_model();
+    all_cells()
+        .filter(|(_, column)| !needs_alone || *column != Column::Weakened)
+        .map(|(value, column)| {
+            let rows = with_altered(&rows, value, column);
+            let cells = rows.iter().map(|row| row.cells).collect();
+            with_answer(&right, Answer::Worth(cells))
+        })
+        .collect()
+}
+
+/// The same of weakening: wk where it is empty, and empty where it is wk.
+fn wrong_weakening(held: &[Capability]) -> Vec<Case> {
+    let held = &held[..=usize::from(ALL_RIGHTS)];
+    let right = Case::new(Question::Weakening {
+        held: held.to_vec(),
+    });
+    let slots: Vec<Capability> = held.iter().copied().map(weaken).collect();
+    (0..slots.len())
+        .map(|place| {
+            let mut slots = slots.clone();
+            slots[place] = match slots[place] {
+                Capability::EMPTY => Capability::new(held[place].target, WK),
+                _ => Capability::EMPTY,
+            };
+            with_answer(&right, Answer::Slots(slots))
+        })
+        .collect()
 }
 
 /// A refusal that leaves the first entity in the table.
@@ -131,7 +176,8 @@ fn other_number(answer: &Answer) -> Answer {
         Answer::Ask(request) => *request = Request::Read { actor: 0, t: 0 },
         Answer::Entries(list) => list.push((0, 0)),
         Answer::Passing(truths) => truths.push(true),
-        Answer::Landing(slots) => slots.push(Capability::EMPTY),
+        Answer::Slots(slots) => slots.push(Capability::EMPTY),
+        Answer::Worth(rows) => rows.push([false; 4]),
         Answer::Clean(start, _) => *start ^= 1,
     }
     answer
@@ -160,7 +206,8 @@ fn other_content(rng: &mut Rng, answer: &Answer) -> Answer {
         }
         Answer::Entries(list) => list.push((0, 0)),
         Answer::Passing(truths) => truths.push(true),
-        Answer::Landing(slots) => slots.push(Capability::EMPTY),
+        Answer::Slots(slots) => slots.push(Capability::EMPTY),
+        Answer::Worth(rows) => rows.push([false; 4]),
         Answer::Clean(start, _) => *start ^= 1,
     }
     answer

@@ -3,6 +3,7 @@
 use super::rules::Rules;
 use super::runs::{Difference, Move, Start};
 use super::trial::Case;
+use crate::rights::right_names;
 use yavrinks_model::set;
 use yavrinks_model::step::{Pair, Request};
 use yavrinks_model::table::{Capability, Record, Table, DEAD, OBJECTS};
@@ -107,12 +108,7 @@ fn record_text(record: &Record) -> String {
 }
 
 fn capability_text(capability: Capability) -> String {
-    let names: Vec<&str> = ["rd", "wr", "wk", "tx"]
-        .into_iter()
-        .enumerate()
-        .filter(|(bit, _)| capability.rights >> bit & 1 == 1)
-        .map(|(_, name)| name)
-        .collect();
+    let names = right_names(capability.rights);
     format!("({}, {})", capability.target, names.join("+"))
 }
 
