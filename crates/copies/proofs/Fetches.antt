@@ -1,7 +1,7 @@
 -- A fetch through rights without rd hands out no more than wk, the first time or later: by what weakening leaves (`rights`).
 -- Assumes nothing.
 use mathlib.Core.Path.{_≡_, refl, _∙_, ap}
-use mathlib.Core.Bool.{false}
+use mathlib.Core.Bool.{true, false}
 use mathlib.Core.Logic.{_⊎_, ⊎-elim, inl, inr}
 use Prim.Native.Nat.{ℕ}
 use Rattle.table.specs.declared.Capability.{Capability}
@@ -9,6 +9,11 @@ use Rattle.table.specs.Cells.{hasRd}
 use Rattle.rights.specs.Rows.{weaken}
 use Rattle.rights.proofs.Weakening.{weaken-is}
 use Rattle.copies.specs.Copies.{fetched}
+
+-- A fetch through rights with rd takes the capability as it is.
+pub fetched-whole : (rights : ℕ) (c : Capability) → hasRd rights ≡ true → fetched rights c ≡ c
+unfolding fetched
+fetched-whole rights c e = rw (e, fetched) refl
 
 -- A fetch through rights without rd weakens.
 pub fetched-weakened : (rights : ℕ) (c : Capability) → hasRd rights ≡ false → fetched rights c ≡ weaken c
