@@ -1,23 +1,20 @@
 -- On which side of the clean objects a request's target stands, which records fit, and what a fetch brings. Assumes nothing.
 use mathlib.Core.Path.{_≡_, refl, sym, _∙_}
 use mathlib.Core.Logic.{_≢_}
-use mathlib.Core.Bool.{true, false, false≢true}
+use mathlib.Core.Bool.{true, false}
 use Prim.Native.Nat.{ℕ, _≤_, _<_}
 use native.Mathlib.Omega.{arith}
 use Rattle.mask.specs.Sets.{has}
-use Rattle.mask.proofs.Tests.{byCases, byEq, clash}
-use Rattle.table.specs.declared.Capability.{Capability}
+use Rattle.mask.proofs.Tests.{byCases, clash}
 use Rattle.table.specs.declared.Record.{Record}
 use Rattle.table.specs.declared.Table.{Table}
-use Rattle.table.specs.Cells.{emptySlot, recordAt, statusAt, stockAt, hasRd}
+use Rattle.table.specs.Cells.{recordAt, statusAt, stockAt}
 use Rattle.table.proofs.SoundFacts.{Sound}
 use Rattle.rights.specs.declared.Need.the-variants.{Write, Send}
 use Rattle.rights.specs.declared.Need.{Need}
 use Rattle.rights.specs.Rows.{rows, worthOf, needMet}
-use Rattle.rights.proofs.Weakening.{weaken-elim}
 use Rattle.refusals.specs.Refusals.{targetOf}
 use Rattle.effects.specs.Effects.{withWord}
-use Rattle.copies.specs.Copies.{fetched}
 use Rattle.isolation.specs.Clean.{Clean}
 use Rattle.isolation.proofs.Invariant.{wkAlone, Isolated, RecordFits}
 use Rattle.steps.proofs.Granted.{Granted}
@@ -42,15 +39,6 @@ module _ (t : Table) (C : Clean) (v : Isolated t C) (a s : ℕ) (need : Need) (g
 
   pub same-side : needMet need wkAlone ≡ false → C (targetOf t a s) ≡ C a
   same-side lack = byCases (C a) (λ c. clean-target c ∙ sym c) (λ c. dirty-target lack c ∙ sym c)
-
--- what a fetch takes: the capability itself, wk alone over the same target, or nothing
-pub fetched-elim : (P : Capability → Type 0) (r : ℕ) (c : Capability) → (hasRd r ≡ true → P c) → (hasRd r ≡ false → 1 ≤ c .rights → P (record { target = c .target; rights = 4 })) → P emptySlot → P (fetched r c)
-unfolding rows worthOf needMet fetched
-fetched-elim P r c f g h = byCases (hasRd r)
-    (λ e. rw (e, fetched) (f e))
-    (λ e. rw (e, fetched) (weaken-elim P c
-    (λ q. g e (byEq (c .rights) 0 (λ z. absurd (false≢true (rw z at q))) (λ z. omega arith)))
-    h))
 
 -- records that fit --------------------------------------------------------------------
 pub fits-live : (t : Table) (n : ℕ) (r : Record) → Sound t → n < 64 → statusAt t n ≡ 1 → r .status ≡ 1 → r .kind ≤ 1

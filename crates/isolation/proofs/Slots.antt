@@ -15,12 +15,13 @@ use Rattle.refusals.specs.Replies.{isDone}
 use Rattle.refusals.specs.Refusals.{noObject, noSlot, badField, laterRows, refusal, targetOf, rightsOf}
 use Rattle.effects.specs.Effects.{effect}
 use Rattle.copies.specs.Copies.{fetched}
+use Rattle.copies.proofs.Fetches.{fetched-elim}
 use Rattle.isolation.specs.Clean.{Clean}
 use Rattle.isolation.specs.Demand.{AgreeOn}
 use Rattle.isolation.proofs.Invariant.{Isolated, SlotFits, putSlot-isolated, putRecord-isolated, agree-record-out, agree-slot-out, agree-record, agree-slot}
 use Rattle.refusals.proofs.Rows.{slot-placed}
 use Rattle.steps.proofs.Granted.{past-checks, Granted, granted, revoke-slot}
-use Rattle.isolation.proofs.Sides.{clean-target, dirty-target, same-side, weak-no-write, fetched-elim, fits-word}
+use Rattle.isolation.proofs.Sides.{clean-target, dirty-target, same-side, weak-no-write, fits-word}
 use Rattle.isolation.proofs.Copies.{fits-empty, fits-moved, copy-isolated, copy-out, copy-both}
 
 -- a slot request with two more slots, i and j

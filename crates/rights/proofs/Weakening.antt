@@ -1,9 +1,10 @@
 -- What weakening leaves of a capability, by whether it meets the need of a read. Assumes nothing.
 use mathlib.Core.Path.{_≡_, refl, sym, _∙_, ap, subst}
-use mathlib.Core.Bool.{true, false}
+use mathlib.Core.Bool.{true, false, false≢true}
 use mathlib.Core.Logic.{_⊎_, ⊎-elim, inl, inr}
-use Prim.Native.Nat.{ℕ}
-use Rattle.mask.proofs.Tests.{byCases}
+use Prim.Native.Nat.{ℕ, _≤_}
+use native.Mathlib.Omega.{arith}
+use Rattle.mask.proofs.Tests.{byCases, byEq}
 use Rattle.table.specs.declared.Capability.{Capability}
 use Rattle.table.specs.Cells.{emptySlot}
 use Rattle.rights.specs.declared.Need.the-variants.{ReadOrWeak}
@@ -23,6 +24,11 @@ weaken-able c e = weakening-is-the-sentence c ∙ rw (sym (needs-are-the-sentenc
 pub weaken-unable : (c : Capability) → needMet ReadOrWeak (c .rights) ≡ false → weaken c ≡ emptySlot
 unfolding WeakeningIsTheSentence
 weaken-unable c e = weakening-is-the-sentence c ∙ rw (sym (needs-are-the-sentences .readOrWeak (c .rights)) ∙ e) refl
+
+-- Where rd or wk is present there is a right.
+pub able-some : (rights : ℕ) → needMet ReadOrWeak rights ≡ true → 1 ≤ rights
+unfolding rows worthOf needMet
+able-some rights e = byEq rights 0 (λ z. absurd (false≢true (rw z at e))) (λ z. omega arith)
 
 -- What holds of wk over the same target, where rd or wk was present, and of the empty slot, holds of a weakened capability.
 pub weaken-elim : (P : Capability → Type 0) (c : Capability) → (needMet ReadOrWeak (c .rights) ≡ true → P (weakOver (c .target))) → P emptySlot → P (weaken c)

@@ -9,10 +9,9 @@ use Rattle.mask.proofs.Tests.{byCases}
 use Rattle.mask.proofs.Bits.{bits-lt}
 use Rattle.table.specs.declared.Capability.{Capability}
 use Rattle.table.specs.declared.Table.{Table}
-use Rattle.table.specs.Cells.{IsTable, recordAt, slotAt, emptySlot, hasRd}
+use Rattle.table.specs.Cells.{IsTable, recordAt, slotAt, emptySlot}
 use Rattle.table.proofs.Value.{RecordValue, SlotValue, record-value, slot-value, empty-value, slot-of, table-putRecord, table-putSlot}
-use Rattle.rights.specs.Rows.{weaken}
-use Rattle.rights.proofs.Weakening.{weakOver, weaken-elim}
+use Rattle.rights.proofs.Weakening.{weakOver}
 use Rattle.requests.specs.declared.Pair.{Pair}
 use Rattle.requests.specs.Asks.{Ask, read, write, fetch, store, revoke, send, allocate, destroy, unknown, InBits}
 use Rattle.refusals.specs.Replies.{isDone}
@@ -20,6 +19,7 @@ use Rattle.refusals.specs.Refusals.{targetOf, rightsOf, refusal}
 use Rattle.effects.specs.Effects.{answerSlot, clearSlots, withWord, withStock, made, died, fullOver, stockLess, sent, allocated, destroyed, effect}
 use Rattle.copies.specs.Copies.{fetched, copyTo, copyPairs}
 use Rattle.copies.proofs.Landing.{landed-elim}
+use Rattle.copies.proofs.Fetches.{fetched-elim}
 use Rattle.steps.specs.Steps.{after, runTable}
 use Rattle.steps.proofs.Refused.{refused-keeps, done-effects}
 
@@ -39,14 +39,9 @@ unfolding unionOf
 union-lt a b = bits-lt 64 _
 
 -- and slots
-weaken-value : (c : Capability) → c .target < 2 ^ 8 → SlotValue (weaken c)
-weaken-value c h = weaken-elim SlotValue c (λ e. slot-value (weakOver (c .target)) h (omega arith)) empty-value
-
 fetched-value : (rights : ℕ) (c : Capability) → c .target < 2 ^ 8 → c .rights < 2 ^ 8 → SlotValue (fetched rights c)
-unfolding fetched
-fetched-value rights c h g = byCases (hasRd rights)
-    (λ e. rw (e, fetched) (slot-value c h g))
-    (λ e. rw (e, fetched) (weaken-value c h))
+fetched-value rights c h g =
+    fetched-elim SlotValue rights c (λ e. slot-value c h g) (λ e p. slot-value (weakOver (c .target)) h (omega arith)) empty-value
 
 -- puts one after the other -----------------------------------------------------------------------
 copy-keeps : (t : Table) (n j : ℕ) (c : Capability) → IsTable t → SlotValue c → IsTable (copyTo t n j c)
