@@ -160,12 +160,14 @@ static int load(const char *path)
     return 0;
 }
 
-/* The subsystem {5, 10}, which may hold wr over 1. */
+/* The subsystem {5, 10}, which may hold wr over 1. In round one it gets at 1; 0 has rd over 1 and 2 has wk over
+ * it, and both come in round two. */
 static const uint64_t members = (uint64_t)1 << 5 | (uint64_t)1 << 10;
 static const uint8_t list[2] = {1, CAPTABLE_WR};
 
 /* Tests a subsystem of a table with a list, prints the answer and gives its number. Whatever is not accepted is
- * not loaded. */
+ * not loaded. The rounds tell how far the influence spreads: round one adds what the list leads to, each later round
+ * what is one link from what is there. */
 static uint8_t admit(const char *who, const captable_table *in, uint64_t set, const uint8_t *listed, size_t length)
 {
     captable_finding finding = captable_test(*in, set, listed, length);
@@ -179,6 +181,8 @@ static uint8_t admit(const char *who, const captable_table *in, uint64_t set, co
     for (n = 0; n < CAPTABLE_OBJECTS; n++)
         if (finding.bound >> n & 1)
             printf(" %u", n);
+    if (finding.rounds != 0)
+        printf(", reached in %u round%s", finding.rounds, finding.rounds == 1 ? "" : "s");
     printf("\n");
     return CAPTABLE_DONE;
 }
@@ -234,7 +238,7 @@ static const uint8_t older[17] = {
 };
 
 /* Brings that table in and tests its routine, which may hold wr over 0. Store links lead from 0 to 2 and on to
- * 3, so these are influenced too. */
+ * 3, so these are influenced too, one round after the other. */
 static int bring_in(void)
 {
     static const uint8_t entry[2] = {0, CAPTABLE_WR};

@@ -136,7 +136,7 @@ static void longest_import(void)
 
 int main(void)
 {
-    check(CAPTABLE_VERSION == 0 * 65536 + 6 * 256 + 0, "the header's version is 0.6.0");
+    check(CAPTABLE_VERSION == 0 * 65536 + 7 * 256 + 0, "the header's version is 0.7.0");
     check(captable_version() == CAPTABLE_VERSION, "the archive has the header's version");
     reasons();
     numbers();

@@ -61,7 +61,7 @@ struct answers {
     uint32_t version;
     uint8_t numbers[12];
     uint64_t bound, rows[4 * CAPTABLE_OBJECTS];
-    uint8_t chain[CAPTABLE_LINKS];
+    uint8_t rounds, chain[CAPTABLE_LINKS];
     uint8_t loaded[CAPTABLE_IMAGE_BYTES], after[CAPTABLE_IMAGE_BYTES], given[CAPTABLE_IMAGE_BYTES];
     uint8_t imported[CAPTABLE_IMAGE_BYTES];
     uint8_t printed[CAPTABLE_PRINTED];
@@ -87,6 +87,7 @@ static void ask(const uint8_t *input, size_t length, struct answers *out)
     out->version = captable_version();
     out->count = captable_confine(input, length, out->printed);
     out->bound = finding.bound;
+    out->rounds = finding.rounds;
     memcpy(out->rows, relation.rows, sizeof out->rows);
     memcpy(out->chain, shown.numbers, sizeof out->chain);
     out->numbers[0] = loaded.number;
@@ -103,12 +104,13 @@ static void ask(const uint8_t *input, size_t length, struct answers *out)
     out->numbers[11] = captable_write(imported.table, out->imported, sizeof out->imported);
 }
 
-/* Was every call done, and not merely refused twice? */
+/* Was every call done, and not merely refused twice? Of the test, 1 comes in round one, and 0 and 2 in round two. */
 static int all_done(const struct answers *a)
 {
     static const uint8_t done[sizeof a->numbers] = {CAPTABLE_DONE};
 
-    return a->version == CAPTABLE_VERSION && a->count != 0 && memcmp(a->numbers, done, sizeof done) == 0;
+    return a->version == CAPTABLE_VERSION && a->count != 0 && a->rounds == 2 &&
+           memcmp(a->numbers, done, sizeof done) == 0;
 }
 
 int main(int count, char **words)

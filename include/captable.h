@@ -2,7 +2,7 @@
  * captable.h: the proved capability table for firmware in C and C++.
  *
  * The table is one fixed table of 64 objects with eight capabilities each. Its rules are document 01's,
- * with requests 2.1 to 2.5 of document 02, and every answer is a number of theirs: 0 for done, or why not
+ * with requests 2.1 to 2.6 of document 02, and every answer is a number of theirs: 0 for done, or why not
  * (enum captable_number).
  *
  * Link with libcaptable.a, which `rt staticlib captable` proves and writes. It needs memcpy and memset
@@ -68,9 +68,9 @@ extern "C" {
 
 /* ---- version -------------------------------------------------------------------------------------- */
 
-/* The version of the calls, 0.6.0: the first number times 65,536, the second times 256, and the third.
+/* The version of the calls, 0.7.0: the first number times 65,536, the second times 256, and the third.
  * captable_version gives that of the archive. Compare the two at start. */
-#define CAPTABLE_VERSION 1536
+#define CAPTABLE_VERSION 1792
 
 /* ---- sizes ---------------------------------------------------------------------------------------- */
 
@@ -81,7 +81,7 @@ extern "C" {
 #define CAPTABLE_REQUEST_BYTES 22  /* the longest request: an allocate with four pairs */
 #define CAPTABLE_PAIRS 4           /* the most pairs in the list of a send or an allocate */
 #define CAPTABLE_ENTRIES 8         /* the most entries in the list of a test; wk alone needs none */
-#define CAPTABLE_LINKS 63          /* the most links of a chain, and so the most numbers in it */
+#define CAPTABLE_LINKS 63          /* the most links of a chain, numbers in it, and rounds of a test */
 #define CAPTABLE_PRINTED 256       /* the buffer of captable_confine */
 
 /* ---- stack ---------------------------------------------------------------------------------------- */
@@ -104,15 +104,15 @@ extern "C" {
 #define CAPTABLE_STACK_STEP 12616
 #define CAPTABLE_STACK_STEP_BY_VALUE 10536
 #define CAPTABLE_STACK_SOUND 4200
-#define CAPTABLE_STACK_ACCESS 14424
-#define CAPTABLE_STACK_TEST 12456
-#define CAPTABLE_STACK_CHAIN 14632
+#define CAPTABLE_STACK_ACCESS 8328
+#define CAPTABLE_STACK_TEST 8904
+#define CAPTABLE_STACK_CHAIN 10552
 #define CAPTABLE_STACK_READ 11448
 #define CAPTABLE_STACK_IMPORT 7240
 #define CAPTABLE_STACK_WRITE 6264
-#define CAPTABLE_STACK_CONFINE 12536
+#define CAPTABLE_STACK_CONFINE 11528
 #define CAPTABLE_STACK_VERSION 8
-#define CAPTABLE_STACK_MOST 14632
+#define CAPTABLE_STACK_MOST 12616
 
 /* ---- values --------------------------------------------------------------------------------------- */
 
@@ -264,9 +264,16 @@ typedef struct captable_relation {
 
 /* What the confinement test found. `bound` is the set of non-members that the members can ever
  * influence, bit n for object n; it is empty on every refusal. It is worked from the list, and not from what
- * the members hold. An entry with wk alone adds nothing to it. */
+ * the members hold. An entry with wk alone adds nothing to it.
+ *
+ * `rounds` says in how many rounds that influence spreads. Round one adds the objects one link from the stand-in,
+ * which is in the place of all members and holds exactly the list; each later round adds the objects one link from
+ * what is there (captable_chain says what a link is). Counted are the rounds that add an object, and after the last
+ * of them the bound is there. So it is the number of links of the longest chain that captable_chain shows for the
+ * objects of the bound: 0 for an empty bound and on every refusal, and at most 63 (CAPTABLE_LINKS). */
 typedef struct captable_finding {
     uint64_t bound;
+    uint8_t rounds;
     uint8_t number;
 } captable_finding;
 
@@ -293,7 +300,8 @@ CAPTABLE_ASSERT(outcome_number, offsetof(captable_outcome, number) == 2048);
 CAPTABLE_ASSERT(relation, sizeof(captable_relation) == 2056);
 CAPTABLE_ASSERT(relation_number, offsetof(captable_relation, number) == 2048);
 CAPTABLE_ASSERT(finding, sizeof(captable_finding) == 16);
-CAPTABLE_ASSERT(finding_number, offsetof(captable_finding, number) == 8);
+CAPTABLE_ASSERT(finding_rounds, offsetof(captable_finding, rounds) == 8);
+CAPTABLE_ASSERT(finding_number, offsetof(captable_finding, number) == 9);
 CAPTABLE_ASSERT(shown, sizeof(captable_shown) == 65);
 CAPTABLE_ASSERT(shown_count, offsetof(captable_shown, count) == 63);
 CAPTABLE_ASSERT(shown_number, offsetof(captable_shown, number) == 64);
@@ -357,8 +365,8 @@ CAPTABLE_ANSWER captable_relation captable_access(captable_table table);
 
 /*
  * The confinement test: which objects can a set of members, bit n for object n, ever influence, if over
- * non-members they hold no more than the list has, wk alone not counted? Each entry of the list is two bytes:
- * target, rights. Bytes of odd length are no list and get 11.
+ * non-members they hold no more than the list has, wk alone not counted, and in how many rounds does that spread?
+ * Each entry of the list is two bytes: target, rights. Bytes of odd length are no list and get 11.
  *
  * What needs an entry: a member's capability to a non-member, unless its rights are exactly wk (CAPTABLE_WK, 4).
  * Every right of it has to be listed for its target, in one entry or in several, or the number is 12. Beside

@@ -7,13 +7,8 @@ use std::collections::BTreeMap;
 use crate::confinement::{confinement_test, Entry};
 use crate::refusal::Refusal;
 use crate::set;
-use crate::table::{Capability, Table, RD, TX, WK, WR};
-
-/// The point of the stand-in: a number that no object has.
-const STAND_IN: u8 = 64;
-
-/// One link, from a point to a point.
-type Link = (u8, u8);
+use crate::table::Table;
+use crate::test_links::{links, Link, STAND_IN};
 
 /// Points, each with a chain's object numbers from the stand-in to it, the stand-in left out.
 type Chains = BTreeMap<u8, Vec<u8>>;
@@ -21,11 +16,11 @@ type Chains = BTreeMap<u8, Vec<u8>>;
 /// The chain that is shown: 0 and its object numbers in turn, the object's own last, or the refusal
 /// number and no chain.
 pub fn chain(table: &Table, members: u64, list: &[Entry], object: u8) -> (u8, Vec<u8>) {
-    let (number, bound) = confinement_test(table, members, list);
-    if number != 0 {
-        return (number, Vec::new());
+    let tested = confinement_test(table, members, list);
+    if tested.number != 0 {
+        return (tested.number, Vec::new());
     }
-    if let Err(refusal) = check(table, members, bound, object) {
+    if let Err(refusal) = check(table, members, tested.bound, object) {
         return (refusal.number(), Vec::new());
     }
     let mut chains = first_chains(&links(table, members, list));
@@ -42,33 +37,6 @@ fn check(table: &Table, members: u64, bound: u64, object: u8) -> Result<(), Refu
         return Err(Refusal::ObjectOutsideBound);
     }
     Ok(())
-}
-
-/// The links of every capability held by a non-member, and of every one listed. No record of a
-/// member is read.
-fn links(table: &Table, members: u64, list: &[Entry]) -> Vec<Link> {
-    let mut links = Vec::new();
-    for n in set::numbers(!members) {
-        for held in table.record(n).capabilities() {
-            links.extend(links_of(n, held));
-        }
-    }
-    for &(target, rights) in list {
-        links.extend(links_of(STAND_IN, Capability::new(target, rights)));
-    }
-    links
-}
-
-/// The links of one capability: rd, wr or tx taken either way, wk taken from target to holder.
-fn links_of(holder: u8, held: Capability) -> Vec<Link> {
-    let mut links = Vec::new();
-    if held.has_any(RD | WR | TX) {
-        links.push((holder, held.target));
-    }
-    if held.has_any(RD | WR | TX | WK) {
-        links.push((held.target, holder));
-    }
-    links
 }
 
 /// The first of the shortest chains to every point that the stand-in leads to.

@@ -23,9 +23,10 @@ pub fn confine(input: &[u8]) -> String {
     }
     let members = big_endian(&input[IMAGE_LENGTH..COUNT_AT]);
     let list = decode_list(&input[ENTRIES_AT..]);
-    match confinement_test(&table, members, &list) {
-        (0, bound) => accepted(bound),
-        (number, _) => refused(number),
+    let tested = confinement_test(&table, members, &list);
+    match tested.number {
+        0 => accepted(tested.bound),
+        number => refused(number),
     }
 }
 

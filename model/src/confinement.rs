@@ -1,9 +1,11 @@
 //! The confinement test: whether a set of members is confined to a list, and to which bound.
 //! All members are replaced by one stand-in, a point after the 64 numbers, that holds the list.
-//! A member's capability with wk alone needs no entry, as 2.3 of document 02 has it.
+//! A member's capability with wk alone needs no entry, as 2.3 of document 02 has it; with the bound the
+//! number of rounds is reported, as 2.6 has it.
 
 use crate::access::Relation;
 use crate::refusal::Refusal;
+use crate::rounds::rounds;
 use crate::set;
 use crate::table::{Capability, Table, ALL_RIGHTS, OBJECTS, WK};
 
@@ -18,11 +20,49 @@ const STAND_IN: usize = OBJECTS;
 /// The points of the relation that gives the bound.
 const POINTS: usize = OBJECTS + 1;
 
-/// The test: 0 and the bound, or the refusal number and an empty bound.
-pub fn confinement_test(table: &Table, members: u64, list: &[Entry]) -> (u8, u64) {
+/// What the test brings back.
+#[derive(Clone, Copy, Debug, PartialEq, Eq)]
+pub struct Tested {
+    /// 0 for accepted, or the refusal number.
+    pub number: u8,
+    /// The bound, empty on a refusal.
+    pub bound: u64,
+    /// How many rounds added an object, none on a refusal.
+    pub rounds: u8,
+}
+
+impl Tested {
+    /// Accepted: the bound, and the rounds that it took.
+    pub fn accepted(bound: u64, rounds: u8) -> Tested {
+        Tested {
+            number: 0,
+            bound,
+            rounds,
+        }
+    }
+
+    /// The number with an empty bound, for which no round adds anything.
+    pub fn empty(number: u8) -> Tested {
+        Tested {
+            number,
+            bound: 0,
+            rounds: 0,
+        }
+    }
+
+    pub fn is_accepted(&self) -> bool {
+        self.number == 0
+    }
+}
+
+/// The test.
+pub fn confinement_test(table: &Table, members: u64, list: &[Entry]) -> Tested {
     match check(table, members, list) {
-        Ok(()) => (0, bound(table, members, list)),
-        Err(refusal) => (refusal.number(), 0),
+        Ok(()) => {
+            let rounds = rounds(table, members, list).len();
+            Tested::accepted(bound(table, members, list), rounds as u8)
+        }
+        Err(refusal) => Tested::empty(refusal.number()),
     }
 }
 

@@ -9,7 +9,7 @@
 //! | Objects, slots, rights | `table`: records, soundness; `set`: numbers as 64 bits |
 //! | The eight requests | `step`: needs, effects, both forms of a step; `wire`: as bytes |
 //! | Potential access and influence | `access`: by saturation of the rules as written |
-//! | The confinement test | `confinement`: checks, stand-in, bound |
+//! | The confinement test | `confinement`: checks, stand-in, bound, all that the test brings back |
 //! | Two runs | `runs`: a run, the clean objects along it, their requests and replies |
 //! | Why something is turned down | `refusal`: numbers; each check is where it refuses |
 //! | The stored image | `image`: reading, writing; `confine`: the program |
@@ -22,14 +22,15 @@
 //!
 //! | request | file |
 //! |---|---|
-//! | 2.1 Show me the chain | `chain`: checks, links, the shortest chain that comes first |
+//! | 2.1 Show me the chain | `test_links`: the links of a test; `chain`: checks, the shortest chain that comes first |
 //! | 2.2 Bring in take-and-grant tables | `take_grant`: checks, the walk over the entities, what rights become |
 //! | 2.3 Weak capabilities need no entry | `confinement`: `passes`, the amended refusal 12 |
 //! | 2.4 An empty copy keeps the destination | `step`: `landed`, where every copy lands |
 //! | 2.5 Sixteen rows for weakening | none: no result changes. The rows are compared with `step`, which keeps to the sentences: `weaken`, `Code::needs` |
+//! | 2.6 How many rounds | `rounds`: what is there after each round; `confinement` reports how many they are |
 //!
 //! Beside these, `links` leads to the bound a second way, as the proved code has it too: what can be
-//! reached from the holder of the list, link by link. Of requests and lists as bytes document 01 says no
+//! reached from the holder of the list, link by link, and in how many rounds. Of requests and lists as bytes document 01 says no
 //! more than the order of fields; `wire` has what crosses to C and Rust.
 
 #![forbid(unsafe_code)]
@@ -56,4 +57,8 @@ pub mod confine;
 
 // In the order of document 02.
 pub mod chain;
+pub mod test_links;
+
 pub mod take_grant;
+
+pub mod rounds;

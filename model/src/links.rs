@@ -1,5 +1,5 @@
 //! Links between numbers: a capability with rd, wr or tx leads from its holder to its target and
-//! back, one with wk from its target to its holder; and what can be reached over them.
+//! back, one with wk from its target to its holder; what can be reached over them, and in how many rounds.
 
 use crate::set;
 use crate::table::{Capability, Table, RD, TX, WK, WR};
@@ -56,5 +56,21 @@ impl Links {
             }
         }
         seen
+    }
+
+    /// How many rounds from a number added another one. At first the number alone is there; each round adds
+    /// those one link from what is there. Nothing is there for a number above 63.
+    pub fn rounds(&self, start: u8) -> u8 {
+        let mut there = set::of(Some(start).filter(|&n| n < 64));
+        let mut rounds = 0;
+        loop {
+            let linked = set::numbers(there).map(|n| self.from[usize::from(n)]);
+            let grown = linked.fold(there, |all, numbers| all | numbers);
+            if grown == there {
+                return rounds;
+            }
+            there = grown;
+            rounds += 1;
+        }
     }
 }

@@ -1,13 +1,15 @@
 //! Document 02, 2.1, sentence by sentence, each on a small table.
 
 mod held;
+mod refused;
 
 use held::{table_with, Held};
+use refused::refused_tests;
 use yavrinks_model::chain::chain;
 use yavrinks_model::confinement::{confinement_test, Entry};
 use yavrinks_model::set;
 use yavrinks_model::table::{Capability, Table};
-use yavrinks_model::table::{ALIVE, ALL_RIGHTS, DEAD, RD, SLOTS, TX, UNBORN, WK, WR};
+use yavrinks_model::table::{ALIVE, ALL_RIGHTS, DEAD, RD, SLOTS, TX, WK, WR};
 
 /// The member of most tests here. It holds nothing unless a test says so.
 const MEMBER: u8 = 60;
@@ -160,7 +162,7 @@ fn numbers_are_compared_as_numbers() {
 
 #[test]
 fn chains_exist_for_the_bound_and_for_nothing_else() {
-    let (_, bound) = confinement_test(&Table::k(), set::single(5), &[(1, WR)]);
+    let bound = confinement_test(&Table::k(), set::single(5), &[(1, WR)]).bound;
     for object in 0..=255 {
         let (number, chain) = shown_of_k(object);
         assert_eq!(number == 0, set::contains(bound, object));
@@ -209,7 +211,7 @@ fn numbers_above_63_unborn_numbers_and_members_are_18() {
     table.record_mut(2).slots = [Capability::EMPTY; SLOTS];
     let members = set::of([4, 5]);
     let list = [(1, WR), (3, WR)];
-    assert_eq!(confinement_test(&table, members, &list).0, 0);
+    assert!(confinement_test(&table, members, &list).is_accepted());
     // 64 + 1 and 128 + 1 are 1 in their low bits, 10 is in the stock of a member.
     for object in [64, 65, 129, 255, 7, 10, 63, 4, 5] {
         assert_eq!(chain(&table, members, &list, object), (18, vec![]));
@@ -217,23 +219,6 @@ fn numbers_above_63_unborn_numbers_and_members_are_18() {
     for object in [2, 6] {
         assert_eq!(chain(&table, members, &list, object), (19, vec![]));
     }
-}
-
-/// A test that is refused, for each of the test's numbers.
-fn refused_tests() -> [(u8, Table, u64, Vec<Entry>); 5] {
-    let k = Table::k();
-    let mut unsound = Table::k();
-    unsound.record_mut(3).status = UNBORN;
-    let mut naming = Table::k();
-    naming.record_mut(0).slots[1] = Capability::new(5, WK);
-    let list = vec![(1, WR)];
-    [
-        (1, unsound, set::of([5]), list.clone()),
-        (10, k.clone(), set::of([5, 10]), list.clone()),
-        (11, k.clone(), set::of([5]), vec![(1, WR), (10, WR)]),
-        (12, k, set::of([5]), vec![]),
-        (13, naming, set::of([5]), list),
-    ]
 }
 
 #[test]

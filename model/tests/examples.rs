@@ -21,8 +21,8 @@ fn printed(table: &Table, members: &[u8], list: &[Entry]) -> String {
 
 /// Asserts number and bound of a test on table K after a change, and the text of the program.
 fn assert_test(table: &Table, members: &[u8], list: &[Entry], number: u8, bound: &[u8]) {
-    let outcome = confinement_test(table, set::of(members), list);
-    assert_eq!(outcome, (number, set::of(bound)));
+    let tested = confinement_test(table, set::of(members), list);
+    assert_eq!((tested.number, tested.bound), (number, set::of(bound)));
     let mut text = match number {
         0 => String::from("accepted\n"),
         _ => format!("refused {number}\n"),

@@ -1,7 +1,7 @@
 //! Sentences of document 01 that its examples leave out, in its order, each on a small table. Those on empty
 //! copies are as 2.4 of document 02 amends them.
 
-use yavrinks_model::confinement::confinement_test;
+use yavrinks_model::confinement::{confinement_test, Tested};
 use yavrinks_model::image::{encode, read, write, IMAGE_LENGTH};
 use yavrinks_model::links::Links;
 use yavrinks_model::runs::{clean_at_start, clean_part, run};
@@ -121,9 +121,10 @@ fn listed_rights_are_the_union_over_entries() {
     let mut table = Table::k();
     table.records[5].slots[0] = Capability::new(1, RD | WR);
     let members = set::of([5]);
-    assert_eq!(confinement_test(&table, members, &[(1, WR)]), (12, 0));
-    let (number, _) = confinement_test(&table, members, &[(1, WR), (1, RD)]);
-    assert_eq!(number, 0);
+    let one_missing = confinement_test(&table, members, &[(1, WR)]);
+    assert_eq!(one_missing, Tested::empty(12));
+    let both = confinement_test(&table, members, &[(1, WR), (1, RD)]);
+    assert!(both.is_accepted());
 }
 
 #[test]
@@ -133,19 +134,21 @@ fn dead_non_members_may_be_listed_and_unborn_ones_not() {
     let members = set::of([5]);
     assert_eq!(
         confinement_test(&table, members, &[(1, WR), (6, ALL_RIGHTS)]),
-        (0, set::of([0, 1, 2, 6]))
+        Tested::accepted(set::of([0, 1, 2, 6]), 2)
     );
     let unborn = confinement_test(&table, members, &[(1, WR), (7, ALL_RIGHTS)]);
-    assert_eq!(unborn, (11, 0));
+    assert_eq!(unborn, Tested::empty(11));
 }
 
 /// Example 1 by links: the bound is what the member reaches, since it holds what the list says.
 #[test]
 fn links_lead_to_the_bound() {
     let table = Table::k();
-    let (_, bound) = confinement_test(&table, set::of([5]), &[(1, WR)]);
-    assert_eq!(Links::of_table(&table).reached(5), bound | set::single(5));
-    assert_eq!(Links::of_table(&table).reached(64), 0);
+    let tested = confinement_test(&table, set::of([5]), &[(1, WR)]);
+    let links = Links::of_table(&table);
+    assert_eq!(links.reached(5), tested.bound | set::single(5));
+    assert_eq!(links.rounds(5), tested.rounds);
+    assert_eq!((links.reached(64), links.rounds(64)), (0, 0));
 }
 
 // Two runs.
@@ -155,7 +158,7 @@ fn links_lead_to_the_bound() {
 #[test]
 fn clean_objects_are_told_by_who_asks_and_when() {
     let table = Table::k();
-    let (_, bound) = confinement_test(&table, set::of([5]), &[(1, WR)]);
+    let bound = confinement_test(&table, set::of([5]), &[(1, WR)]).bound;
     let clean = clean_at_start(&table, set::of([5]), bound);
     assert_eq!(clean, set::of([3, 4, 6]));
     let making = |actor, n| Request::Allocate {
@@ -229,7 +232,7 @@ fn rd_is_not_one_way() {
     let mut table = Table::k();
     table.records[5].slots[0] = Capability::new(1, RD);
     let found = confinement_test(&table, set::of([5]), &[(1, RD)]);
-    assert_eq!(found, (0, set::of([0, 1, 2])));
+    assert_eq!(found, Tested::accepted(set::of([0, 1, 2]), 2));
 }
 
 #[test]
@@ -254,12 +257,13 @@ fn the_bound_goes_by_the_list_and_not_by_slots() {
     let mut table = Table::k();
     table.records[5].slots[0] = Capability::EMPTY;
     let found = confinement_test(&table, set::of([5]), &[(1, WR)]);
-    assert_eq!(found, (0, set::of([0, 1, 2])));
+    assert_eq!(found, Tested::accepted(set::of([0, 1, 2]), 2));
 }
 
 #[test]
 fn passive_holders_count_at_13() {
     let mut table = Table::k();
     table.records[6].slots[7] = Capability::new(5, RD);
-    assert_eq!(confinement_test(&table, set::of([5]), &[(1, WR)]), (13, 0));
+    let found = confinement_test(&table, set::of([5]), &[(1, WR)]);
+    assert_eq!(found, Tested::empty(13));
 }

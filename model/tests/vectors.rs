@@ -1,5 +1,5 @@
-//! The test vectors in `vectors/`: steps, potential access, tests, inputs of `confine`, chains and
-//! imports.
+//! The test vectors in `vectors/`: steps, potential access, tests, inputs of `confine`, chains, imports and
+//! rounds.
 //! Every line of every file is compared in full. Where a later request amends a line of the base or of an
 //! earlier request, the line is named here, and what it says now is worked in another way.
 
@@ -13,7 +13,7 @@ use lines::{Json, StepLine, TestLine};
 use yavrinks_model::access::{potential_access, Access};
 use yavrinks_model::chain::chain;
 use yavrinks_model::confine::confine;
-use yavrinks_model::confinement::confinement_test;
+use yavrinks_model::confinement::{confinement_test, Tested};
 use yavrinks_model::set;
 use yavrinks_model::step::{step, step_in_place, Request};
 use yavrinks_model::table::{Capability, Table, WK};
@@ -120,7 +120,7 @@ fn access() {
 const AMENDED_BY_2_3: [usize; 7] = [52, 88, 89, 124, 163, 166, 172];
 
 /// The answer that the test gives to a line.
-fn tested(line: &TestLine) -> (u8, u64) {
+fn tested(line: &TestLine) -> Tested {
     confinement_test(&line.table, line.members, &line.list)
 }
 
@@ -132,7 +132,9 @@ fn expect_tests(file: &str, count: usize, amended: &[usize]) -> Vec<(usize, Test
         if amended.contains(&number) {
             left.push((number, line));
         } else {
-            assert_eq!(tested(&line), line.answer, "{file}, line {number}");
+            let found = tested(&line);
+            let answer = (found.number, found.bound);
+            assert_eq!(answer, line.answer, "{file}, line {number}");
         }
     }
     left
@@ -160,7 +162,7 @@ fn tests() {
     for (number, mut line) in amended {
         assert_eq!(line.answer, (12, 0), "line {number}");
         let found = tested(&line);
-        assert_eq!(found.0, 0, "line {number}");
+        assert!(found.is_accepted(), "line {number}");
         let bare = without_weak(&line);
         assert_ne!(line.table, bare);
         line.table = bare;
@@ -214,5 +216,16 @@ fn imports() {
         let outcome = import(&hexadecimal(field(&value, "bytes")));
         let expected = (byte(field(&value, "number")), table(field(&value, "table")));
         assert_eq!(outcome, expected, "line {line}");
+    }
+}
+
+#[test]
+fn rounds() {
+    let file = "2.6/rounds.jsonl";
+    expect_tests(file, 160, &[]);
+    for (number, value) in (1..).zip(values(file, 160)) {
+        let line = TestLine::of(&value);
+        let rounds = tested(&line).rounds;
+        assert_eq!(Some(rounds), line.rounds, "{file}, line {number}");
     }
 }

@@ -4,7 +4,7 @@ mod held;
 
 use held::{table_with, Held};
 use yavrinks_model::chain::chain;
-use yavrinks_model::confinement::{confinement_test, passes, Entry, MAX_ENTRIES};
+use yavrinks_model::confinement::{confinement_test, passes, Entry, Tested, MAX_ENTRIES};
 use yavrinks_model::set;
 use yavrinks_model::table::{Capability, Table};
 use yavrinks_model::table::{ACTIVE, ALIVE, ALL_RIGHTS, DEAD, PASSIVE, RD, SLOTS, TX, WK, WR};
@@ -21,7 +21,7 @@ fn table_of(held: &[Held]) -> Table {
 }
 
 /// The test where the member is alone.
-fn tested(held: &[Held], list: &[Entry]) -> (u8, u64) {
+fn tested(held: &[Held], list: &[Entry]) -> Tested {
     confinement_test(&table_of(held), set::single(MEMBER), list)
 }
 
@@ -41,15 +41,16 @@ fn a_member_may_read_more_targets_than_a_list_has_room_for() {
     }
     assert!(members.len() * SLOTS > MAX_ENTRIES);
     let members = set::of(members);
-    assert_eq!(confinement_test(&table, members, &[]), (0, 0));
+    let found = confinement_test(&table, members, &[]);
+    assert_eq!(found, Tested::empty(0));
     // The list is free for what members do more with.
     let list: Vec<Entry> = (30..38).map(|n| (n, WR)).collect();
     for &(target, rights) in &list {
         table.record_mut(target).status = ALIVE;
         table.record_mut(58).slots[usize::from(target - 30)] = Capability::new(target, rights);
     }
-    let bound = set::of(30..38);
-    assert_eq!(confinement_test(&table, members, &list), (0, bound));
+    let found = confinement_test(&table, members, &list);
+    assert_eq!(found, Tested::accepted(set::of(30..38), 1));
 }
 
 // The rule is now that a member's capability whose rights are exactly wk passes the test unlisted.
@@ -59,10 +60,10 @@ fn of_fifteen_rights_values_only_wk_passes_unlisted() {
     for rights in 1..=ALL_RIGHTS {
         let expected = if rights == WK { 0 } else { 12 };
         let held = [(MEMBER, TARGET, rights)];
-        assert_eq!(tested(&held, &[]), (expected, 0), "{rights}");
+        assert_eq!(tested(&held, &[]), Tested::empty(expected), "{rights}");
         // Another target's entry is none of its own.
         let other = [(OTHER, ALL_RIGHTS & !WK)];
-        assert_eq!(tested(&held, &other).0, expected, "{rights}");
+        assert_eq!(tested(&held, &other).number, expected, "{rights}");
         assert_eq!(passes(&[], Capability::new(TARGET, rights)), expected == 0);
     }
 }
@@ -74,9 +75,9 @@ fn wk_among_other_rights_has_to_be_listed() {
         let held = [(MEMBER, TARGET, rights)];
         let all_but_wk = [(TARGET, rights & !WK)];
         let expected = if rights & WK == 0 { 0 } else { 12 };
-        assert_eq!(tested(&held, &all_but_wk).0, expected, "{rights}");
+        assert_eq!(tested(&held, &all_but_wk).number, expected, "{rights}");
         let all = [(TARGET, rights & !WK), (TARGET, WK)];
-        assert_eq!(tested(&held, &all).0, 0, "{rights}");
+        assert_eq!(tested(&held, &all).number, 0, "{rights}");
     }
 }
 
@@ -88,7 +89,8 @@ fn each_right_of_several_has_to_be_listed() {
             let listed = rights & !missing;
             if rights & missing != 0 && listed != 0 {
                 let held = [(MEMBER, TARGET, rights)];
-                assert_eq!(tested(&held, &[(TARGET, listed)]), (12, 0), "{rights}");
+                let found = tested(&held, &[(TARGET, listed)]);
+                assert_eq!(found, Tested::empty(12), "{rights}");
             }
         }
     }
@@ -100,17 +102,19 @@ fn wk_passes_beside_another_capability_over_the_same_target() {
     let turned = [(MEMBER, TARGET, RD), (MEMBER, TARGET, WK)];
     for held in [both, turned] {
         // The rd needs its entry, the wk beside it needs none.
-        assert_eq!(tested(&held, &[]), (12, 0));
-        assert_eq!(tested(&held, &[(TARGET, WK)]), (12, 0));
-        assert_eq!(tested(&held, &[(TARGET, RD)]), (0, set::single(TARGET)));
+        assert_eq!(tested(&held, &[]), Tested::empty(12));
+        assert_eq!(tested(&held, &[(TARGET, WK)]), Tested::empty(12));
+        let found = tested(&held, &[(TARGET, RD)]);
+        assert_eq!(found, Tested::accepted(set::single(TARGET), 1));
     }
     // In one slot the same rights are not exactly wk.
     let one_slot = [(MEMBER, TARGET, RD | WK)];
-    assert_eq!(tested(&one_slot, &[(TARGET, RD)]), (12, 0));
+    assert_eq!(tested(&one_slot, &[(TARGET, RD)]), Tested::empty(12));
     // Nor does another member's wk count for it.
     let table = table_of(&[(59, TARGET, WK), (MEMBER, TARGET, RD | WK)]);
     let members = set::of([59, MEMBER]);
-    assert_eq!(confinement_test(&table, members, &[(TARGET, RD)]), (12, 0));
+    let found = confinement_test(&table, members, &[(TARGET, RD)]);
+    assert_eq!(found, Tested::empty(12));
 }
 
 #[test]
@@ -125,9 +129,9 @@ fn wk_passes_in_every_slot_of_every_member() {
             }
             table.record_mut(member).slots[slot] = Capability::new(target, WK);
             let tested = |table: &Table| confinement_test(table, set::single(member), &[]);
-            assert_eq!(tested(&table), (0, 0));
+            assert_eq!(tested(&table), Tested::empty(0));
             table.record_mut(member).slots[slot].rights |= RD;
-            assert_eq!(tested(&table), (12, 0));
+            assert_eq!(tested(&table), Tested::empty(12));
         }
     }
 }
@@ -138,7 +142,7 @@ fn wk_over_a_dead_object_passes_too() {
         let mut table = table_of(&[(MEMBER, TARGET, rights)]);
         table.record_mut(TARGET).status = DEAD;
         let tested = confinement_test(&table, set::single(MEMBER), &[]);
-        assert_eq!(tested, (number, 0), "{rights}");
+        assert_eq!(tested, Tested::empty(number), "{rights}");
     }
 }
 
@@ -150,10 +154,10 @@ fn wk_that_passes_unlisted_adds_nothing_to_the_bound() {
     let outside = [(22, TARGET, WR), (23, TARGET, WK), (OTHER, 24, WR)];
     let weak = [&outside[..], &[(MEMBER, TARGET, WK), (MEMBER, 22, WK)]].concat();
     for list in [&[][..], &[(OTHER, WR)], &[(OTHER, WR), (24, TX)]] {
-        let (number, bound) = tested(&outside, list);
-        assert_eq!(number, 0);
-        assert_eq!(bound & set::of([TARGET, 22, 23]), 0);
-        assert_eq!(tested(&weak, list), (0, bound));
+        let found = tested(&outside, list);
+        assert!(found.is_accepted());
+        assert_eq!(found.bound & set::of([TARGET, 22, 23]), 0);
+        assert_eq!(tested(&weak, list), found);
     }
 }
 
@@ -166,7 +170,7 @@ fn entries_with_wk_change_neither_verdict_nor_bound() {
         (TARGET, 23, WR),
         (23, 24, WK),
     ];
-    let expected = (0, set::of([OTHER, 22]));
+    let expected = Tested::accepted(set::of([OTHER, 22]), 2);
     let mut list = vec![(OTHER, WR)];
     assert_eq!(tested(&held, &list), expected);
     for target in [TARGET, OTHER, 22, 23, 24, TARGET, OTHER] {
@@ -176,9 +180,11 @@ fn entries_with_wk_change_neither_verdict_nor_bound() {
     assert_eq!(list.len(), MAX_ENTRIES);
     // They are entries still, and count as such.
     list.push((TARGET, WK));
-    assert_eq!(tested(&held, &list), (11, 0));
-    assert_eq!(tested(&held, &[(OTHER, WR), (30, WK)]), (11, 0));
-    assert_eq!(tested(&held, &[(OTHER, WR), (MEMBER, WK)]), (11, 0));
+    assert_eq!(tested(&held, &list), Tested::empty(11));
+    for unfit in [30, MEMBER] {
+        let list = [(OTHER, WR), (unfit, WK)];
+        assert_eq!(tested(&held, &list), Tested::empty(11));
+    }
 }
 
 /// Links are those of what non-members hold and of what is listed.
@@ -204,7 +210,7 @@ fn a_non_members_wk_over_a_member_is_13() {
             table.record_mut(22).kind = kind;
             for list in [&[][..], &[(TARGET, WK)], &[(22, WK)]] {
                 let tested = confinement_test(&table, set::single(MEMBER), list);
-                assert_eq!(tested, (13, 0), "{rights}");
+                assert_eq!(tested, Tested::empty(13), "{rights}");
             }
         }
     }
@@ -215,15 +221,12 @@ fn members_may_hold_anything_over_one_another() {
     for rights in 1..=ALL_RIGHTS {
         let table = table_of(&[(MEMBER, 59, rights), (59, MEMBER, rights)]);
         let members = set::of([59, MEMBER]);
-        assert_eq!(confinement_test(&table, members, &[]), (0, 0));
+        let together = confinement_test(&table, members, &[]);
+        assert_eq!(together, Tested::empty(0));
         // Where 59 is no member, its capability names one, and only wk gets that far.
         let number = if rights == WK { 13 } else { 12 };
-        let alone = set::single(MEMBER);
-        assert_eq!(
-            confinement_test(&table, alone, &[]),
-            (number, 0),
-            "{rights}"
-        );
+        let alone = confinement_test(&table, set::single(MEMBER), &[]);
+        assert_eq!(alone, Tested::empty(number), "{rights}");
     }
 }
 
@@ -233,9 +236,12 @@ fn the_earlier_refusals_come_first() {
     let mut unsound = table_of(&held);
     unsound.record_mut(MEMBER).slots[1] = Capability::new(TARGET, 0);
     let members = set::single(MEMBER);
-    assert_eq!(confinement_test(&unsound, members, &[]), (1, 0));
+    let found = confinement_test(&unsound, members, &[]);
+    assert_eq!(found, Tested::empty(1));
     let table = table_of(&held);
-    assert_eq!(confinement_test(&table, 0, &[]), (10, 0));
-    assert_eq!(confinement_test(&table, members, &[(TARGET, 0)]), (11, 0));
-    assert_eq!(confinement_test(&table, members, &[(OTHER, 16)]), (11, 0));
+    assert_eq!(confinement_test(&table, 0, &[]), Tested::empty(10));
+    for entry in [(TARGET, 0), (OTHER, 16)] {
+        let found = confinement_test(&table, members, &[entry]);
+        assert_eq!(found, Tested::empty(11));
+    }
 }

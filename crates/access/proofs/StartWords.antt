@@ -1,5 +1,5 @@
 -- The words from which the rules start, as marks one after another: the own rights of the numbers that take part, then the slots
--- between numbers of a set, then the entries of a list. Assumes nothing.
+-- between numbers of a set. Assumes nothing.
 use mathlib.Core.Path.{_≡_, refl, _∙_, ap, subst⁻¹}
 use mathlib.Core.Bool.{Bool, true, _&&_}
 use mathlib.Core.List.{List}
@@ -14,7 +14,7 @@ use Rattle.table.specs.Cells.{slotOf}
 use Rattle.table.specs.declared.Capability.{Capability}
 use Rattle.relation.specs.Relation.{Right, rd, wr, wk, tx, bitAt, Holding, Can, self}
 use Rattle.relation.specs.Helpers.{place, wordAt, Full, Derived}
-use Rattle.access.specs.Helpers.{markIf, ownMarks, slotMarks, entryMarks}
+use Rattle.access.specs.Helpers.{markIf, ownMarks, slotMarks}
 use Rattle.relation.proofs.Saturation.{full-kept}
 use Rattle.access.proofs.Marks.{has-low, Mark, Marked, marked-none, marked-more, mark-same}
 
@@ -38,15 +38,6 @@ module _ (s : List Capability) (among : ℕ) (start : List ℕ) where
   unfolding slotMarks
   slot-step j on r q e p z = rw add-one (mark-same _ _ _ _ _ (j / 8) (slotOf s j .target) (slotOf s j .rights) e p z)
 
-  pub entry-none : (x : ℕ) → start ≡ entryMarks s among x start 0
-  unfolding entryMarks
-  entry-none x = refl
-
-  pub entry-step : (x n : ℕ) (on : Bool) (r q : List ℕ) → on ≡ has (slotOf s n .target) among → r ≡ entryMarks s among x start n
-      → q ≡ markIf on r x (slotOf s n .target) (slotOf s n .rights) → q ≡ entryMarks s among x start (n + 1)
-  unfolding entryMarks
-  entry-step x n on r q e p z = rw add-one (mark-same _ _ _ _ _ x (slotOf s n .target) (slotOf s n .rights) e p z)
-
 -- what is marked ---------------------------------------------------------------------------
 abbrev ownMark : ℕ → ℕ → Mark
 ownMark nodes i = record { on = has i nodes; holder = i; target = i; rights = 15 }
@@ -54,13 +45,6 @@ ownMark nodes i = record { on = has i nodes; holder = i; target = i; rights = 15
 abbrev slotMark : List Capability → ℕ → ℕ → Mark
 slotMark s among j =
     record { on = has (j / 8) among && has (slotOf s j .target) among; holder = j / 8; target = slotOf s j .target; rights = slotOf s j .rights }
-
-abbrev entryMark : List Capability → ℕ → ℕ → ℕ → Mark
-entryMark s among x n = record { on = has (slotOf s n .target) among; holder = x; target = slotOf s n .target; rights = slotOf s n .rights }
-
--- the first n entries, held by x
-abbrev pub Entered : List Capability → ℕ → ℕ → List ℕ → List ℕ → ℕ → Type 0
-Entered s among x r q n = Marked (entryMark s among x) r q n
 
 own-marked : (nodes i : ℕ) → i ≤ 64 → Marked (ownMark nodes) (replicate 256 0) (ownMarks nodes i) i
 unfolding ownMarks
@@ -73,11 +57,6 @@ module _ (s : List Capability) (among : ℕ) (r : List ℕ) (low : among < 2 ^ 6
   slot-marked zero h = marked-none _ r
   slot-marked (suc j) h = marked-more (slotMark s among) r _ j long (slot-marked j (omega arith))
       (λ e. (omega arith, has-low among _ low (and-true (has (j / 8) among) _ e .1)))
-
-  entry-marked : (x n : ℕ) → x < 64 → Entered s among x r (entryMarks s among x r n) n
-  unfolding entryMarks
-  entry-marked x zero h = marked-none _ r
-  entry-marked x (suc n) h = marked-more (entryMark s among x) r _ n long (entry-marked x n h) (λ e. (h, has-low among _ low e))
 
 -- own rights and slots together -----------------------------------------------------------
 -- what makes the marks right: `nodes` take part, and slots between numbers of `among` are held
@@ -124,8 +103,3 @@ begun s nodes among r low z =
       own = λ b x l e. m .kept .bits _ x (o .held b x l e (all-rights b));
       held = λ b k l u v f. m .held b k l (and-intro _ _ u v) f;
     })
-
--- and the entries after them
-pub entered : (s : List Capability) (among x : ℕ) (r q : List ℕ) (n : ℕ) → among < 2 ^ 64 → x < 64 → length r ≡ 256
-    → q ≡ entryMarks s among x r n → Entered s among x r q n
-entered s among x r q n low h long z = subst⁻¹ (λ (w : List ℕ). Entered s among x r w n) z (entry-marked s among r low long x n h)

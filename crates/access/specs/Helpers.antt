@@ -32,9 +32,3 @@ unfoldable pub slotMarks : List Capability → ℕ → List ℕ → ℕ → List
 slotMarks s among r zero = r
 slotMarks s among r (suc j) =
     markIf (has (j / 8) among && has (slotOf s j .target) among) (slotMarks s among r j) (j / 8) (slotOf s j .target) (slotOf s j .rights)
-
--- the first n entries whose target is in `among`, held by x
-unfoldable pub entryMarks : List Capability → ℕ → ℕ → List ℕ → ℕ → List ℕ
-entryMarks s among x r zero = r
-entryMarks s among x r (suc n) =
-    markIf (has (slotOf s n .target) among) (entryMarks s among x r n) x (slotOf s n .target) (slotOf s n .rights)

@@ -3,8 +3,8 @@ use table::Capability;
 use table::Record;
 ghost use mathlib.Core.Path.{_≡_};
 ghost use mathlib.Core.Bool.{true};
-ghost use Prim.Native.Nat.{_<_, _≤_};
-ghost use Rattle.access.specs.Helpers.{markTo, markIf, ownMarks, slotMarks, entryMarks};
+ghost use Prim.Native.Nat.{_<_};
+ghost use Rattle.access.specs.Helpers.{markTo, markIf, ownMarks, slotMarks};
 ghost use Rattle.access.specs.Answers.{bornOutside};
 
 // The born numbers outside a set.
@@ -64,29 +64,6 @@ pub fn held_words(slots: [Capability; 512], nodes: u64, among: u64) -> [u64; 256
         let on = mask::has(among, (j / 8) as u8) & mask::has(among, c.target);
         mark_if(&mut r, on, j / 8, y, c.rights);
         j = j + 1;
-    }
-    r
-}
-
-// The first n entries, held by x where their target is in `among`.
-pub fn with_entries(
-    start: [u64; 256],
-    entries: [Capability; 8],
-    n: usize,
-    among: u64,
-    x: usize,
-) -> [u64; 256]
-    requires { ⌜ (n ≤ 8) × (x < 64) ⌝ }
-    ensures { λ r. ⌜ r ≡ entryMarks entries among x start n ⌝ }
-{
-    let mut r = start;
-    let mut i: usize = 0;
-    while i < n {
-        let c = entries[i];
-        let y = c.target as usize;
-        let on = mask::has(among, c.target);
-        mark_if(&mut r, on, x, y, c.rights);
-        i = i + 1;
     }
     r
 }

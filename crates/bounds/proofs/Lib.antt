@@ -1,5 +1,6 @@
 -- The bound is exact and reads no byte of a member; what the code works it from.
 pub mod Exact
-pub mod Words
+pub mod Holding
+pub mod TestLinks
 pub mod Passing
 pub mod Weak

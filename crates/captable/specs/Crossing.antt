@@ -20,9 +20,9 @@ use Rattle.captable.specs.declared.Relation.{Relation}
 use Rattle.captable.specs.declared.Finding.{Finding}
 use Rattle.captable.specs.declared.ShownChain.{ShownChain}
 
--- the version of the calls, 0.6.0: the first number times 65,536, the second times 256, the third
+-- the version of the calls, 0.7.0: the first number times 65,536, the second times 256, the third
 abbrev pub version : ℕ
-version = 1536
+version = 1792
 
 abbrev pub soundNumber : Table → ℕ
 soundNumber t = cond (sound t) 0 1
@@ -34,7 +34,7 @@ abbrev pub related : Access → Relation
 related a = record { rows = a .rows; number = accessNumber (a .reply) }
 
 abbrev pub found : Tested → Finding
-found r = record { bound = r .bound; number = verdictNumber (r .verdict) }
+found r = record { bound = r .bound; rounds = r .rounds; number = verdictNumber (r .verdict) }
 
 abbrev pub chained : Shown → ShownChain
 chained s = record { numbers = s .numbers; count = s .count; number = chainNumber (s .reply) }

@@ -34,10 +34,11 @@ pub struct Relation {
     pub number: u8,
 }
 
-// What the test found: the bound is empty on every refusal.
+// What the test found: the bound, and how many rounds added an object to it; empty and 0 on every refusal.
 #[repr(C)]
 pub struct Finding {
     pub bound: u64,
+    pub rounds: u8,
     pub number: u8,
 }
 
@@ -54,7 +55,7 @@ pub struct ShownChain {
 pub extern "C" fn captable_version() -> u32
     ensures { λ r. ⌜ r ≡ version ⌝ }
 {
-    1536
+    1792
 }
 
 // 0 for a sound table, 1 for any other.
@@ -137,6 +138,7 @@ pub extern "C" fn captable_test(table: Table, members: u64, list: &[u8]) -> Find
     let number = numbers::of_verdict(verdict);
     Finding {
         bound: tested.bound,
+        rounds: tested.rounds,
         number: number,
     }
 }

@@ -22,7 +22,7 @@ use Rattle.confinement.specs.Tests.{isAccepted}
 use Rattle.chains.specs.declared.ChainReply.{ChainReply}
 use Rattle.chains.specs.declared.ChainReply.the-variants.{Done}
 use Rattle.walks.specs.Chains.{leastChain, walked}
-use Rattle.chains.specs.Links.{chainLink}
+use Rattle.confinement.specs.Links.{objectLink}
 use Rattle.chains.specs.Answers.{chainNumber, badObject, objectReply, chainReply, shown, notShown, chainOf}
 use Rattle.chains.specs.Exactness.{numbersOf}
 
@@ -76,7 +76,7 @@ module _ (t : Table) (members : ℕ) (list : List Capability) (z : ℕ) where
   unfolding chainReply objectReply
   found-reply f = rw (eq-eqb _ 0 (f .accepted), chainReply, f .fit, objectReply, f .inside) refl
 
-  pub done-shown : chainNumber (chainReply t members list z) ≡ 0 → chainOf t members list z ≡ shown Done (walked (leastChain (chainLink t members list) (standIn members) z))
+  pub done-shown : chainNumber (chainReply t members list z) ≡ 0 → chainOf t members list z ≡ shown Done (walked (leastChain (objectLink t members list) (standIn members) z))
   unfolding chainOf
   done-shown e = rw (eq-eqb _ 0 e, chainOf) refl
 

@@ -2,30 +2,24 @@
 -- them is the walk through the layers. Links into the stand-in lead nowhere new from it (`path-into`), so that every number of a
 -- chain is a non-member. Assumes nothing.
 use mathlib.Core.Path.{_≡_, refl, sym, _∙_}
-use mathlib.Core.Logic.{_≢_}
-use mathlib.Core.Bool.{Bool, true, false, not, _&&_}
+use mathlib.Core.Bool.{Bool, true}
 use mathlib.Core.List.{List}
 use Prim.Native.Nat.{ℕ, _<_}
-use lib.Dec.{ltb, eqb}
-use borrow.Author.Tests.{ltb-true, ltb-false, eqb-true, not-true}
 use Rattle.mask.specs.Sets.{has}
-use Rattle.mask.proofs.Tests.{byCases, clash, and-true, and-intro}
-use Rattle.mask.proofs.Bits.{has-high}
+use Rattle.mask.proofs.Tests.{and-true, and-intro}
 use Rattle.table.specs.declared.Capability.{Capability}
 use Rattle.table.specs.declared.Table.{Table}
 use Rattle.table.proofs.SoundFacts.{Sound}
 use Rattle.relation.specs.Relation.{Holding, takesPart}
-use Rattle.relation.specs.Closure.{bothTakePart, link, reached, influencedSet}
+use Rattle.relation.specs.Closure.{link, reached}
 use Rattle.relation.proofs.Reach.{path-into, reached-path, path-reached}
-use Rattle.bounds.specs.StandIn.{standIn, testNode, testHolding, boundOf}
-use Rattle.bounds.proofs.Exact.{node-low, bound-bit, bound-lt}
+use Rattle.bounds.specs.StandIn.{standIn, testHolding, boundOf}
 use Rattle.confinement.proofs.TestFacts.{Facts}
-use Rattle.confinement.proofs.Held.{node-x}
 use Rattle.walks.specs.Chains.{Chain, last, more, leastChain}
-use Rattle.chains.specs.Links.{chainLink}
+use Rattle.confinement.specs.Links.{objectLink}
 use Rattle.walks.proofs.Shortest.{walk-chain, chain-path}
 use Rattle.walks.proofs.Layered.{Walks, least-walks}
-use Rattle.chains.proofs.LinkFacts.{linked-test}
+use Rattle.confinement.proofs.ObjectLinks.{edge-facts, link-nodes, link-low, edge-low, edge-beside, node-born, bound-low, bound-is, bound-apart}
 
 module _ (t : Table) (members : ℕ) (list : List Capability) (d : Sound t) (ok : Facts t members list) where
   abbrev H : Holding
@@ -35,74 +29,25 @@ module _ (t : Table) (members : ℕ) (list : List Capability) (d : Sound t) (ok 
   X = standIn members
 
   abbrev edge : ℕ → ℕ → Bool
-  edge = chainLink t members list
+  edge = objectLink t members list
 
-  -- a link of a chain is a link of the test's holding, to a non-member
-  pub record Edge (u v : ℕ) : Type 0 where
-    pub out : has v members ≡ false
-    pub linked : link H u v ≡ true
-
-  pub edge-facts : (u v : ℕ) → edge u v ≡ true → Edge u v
-  unfolding chainLink
-  edge-facts u v e = let p = and-true (not (has v members)) _ e in record { out = not-true _ (p .0); linked = sym (linked-test t members list d ok u v) ∙ p .1 }
-
-  edge-intro : (u v : ℕ) → has v members ≡ false → link H u v ≡ true → edge u v ≡ true
-  unfolding chainLink
-  edge-intro u v o e = and-intro (not (has v members)) _ (rw o refl) (linked-test t members list d ok u v ∙ e)
-
-  link-nodes : (u v : ℕ) → link H u v ≡ true → (testNode t members u ≡ true) × (testNode t members v ≡ true)
-  unfolding link bothTakePart
-  link-nodes u v e = and-true (testNode t members u) (testNode t members v) (and-true (testNode t members u && testNode t members v) _ e .0)
-
-  link-low : (u v : ℕ) → link H u v ≡ true → (u < 64) × (v < 64)
-  link-low u v e = let n = link-nodes u v e in (node-low t members list u (n .0), node-low t members list v (n .1))
-
-  pub edge-low : (u v : ℕ) → edge u v ≡ true → (u < 64) × (v < 64)
-  edge-low u v e = link-low u v (edge-facts u v e .linked)
-
-  -- who takes part is the stand-in, if a member
-  node-x-only : (n : ℕ) → testNode t members n ≡ true → has n members ≡ true → n ≡ X
-  unfolding testNode
-  node-x-only n e m = eqb-true n X (and-true (ltb n 64) (eqb n X) (rw (m, testNode) at e) .1)
-
-  -- and else a born non-member
-  pub node-born : (n : ℕ) → testNode t members n ≡ true → has n members ≡ false → takesPart t n ≡ true
-  unfolding testNode
-  node-born n e o = rw (o, testNode) at e
-
-  -- the bound is what links reach from the stand-in -----------------------------------------------
-  pub bound-low : (z : ℕ) → has z (boundOf t members list) ≡ true → z < 64
-  bound-low z e = byCases (ltb z 64) (ltb-true z 64)
-      (λ q. clash e (has-high z (boundOf t members list) 64 (bound-lt t members list) (ltb-false z 64 q)))
-
-  bound-is : (z : ℕ) → z < 64 → has z (boundOf t members list) ≡ (has z (reached (link H) X) && not (has z members))
-  unfolding influencedSet
-  bound-is z h = bound-bit t members list z h ∙ rw (node-x t members list d ok, influencedSet) refl
-
-  -- a link to anybody but the stand-in leads to a non-member
-  edge-beside : (u v : ℕ) → v ≢ X → link H u v ≡ true → edge u v ≡ true
-  edge-beside u v n e = byCases (has v members) (λ m. absurd (n (node-x-only v (link-nodes u v e .1) m))) (λ m. edge-intro u v m e)
-
-  pub bound-out : (z : ℕ) → has z (boundOf t members list) ≡ true → has z members ≡ false
-  bound-out z e = not-true _ (and-true (has z (reached (link H) X)) _ (sym (bound-is z (bound-low z e)) ∙ e) .1)
-
-  pub bound-apart : (z : ℕ) → has z (boundOf t members list) ≡ true → (X ≡ z → ⊥)
-  bound-apart z e q = clash (ok .lowest) (rw (← q) at (bound-out z e))
+  abbrev low : (u v : ℕ) → edge u v ≡ true → (u < 64) × (v < 64)
+  low = edge-low t members list d ok
 
   bound-reached : (z : ℕ) → has z (boundOf t members list) ≡ true → has z (reached edge X) ≡ true
   bound-reached z e =
-      let h = bound-low z e in
-      let p = reached-path (link H) X z h (and-true (has z (reached (link H) X)) _ (sym (bound-is z h) ∙ e) .0) in
-      path-reached edge edge-low X z (ok .low) (path-into (link H) edge X edge-beside p)
+      let h = bound-low t members list d ok z e in
+      let p = reached-path (link H) X z h (and-true (has z (reached (link H) X)) _ (sym (bound-is t members list d ok z h) ∙ e) .0) in
+      path-reached edge low X z (ok .low) (path-into (link H) edge X (edge-beside t members list d ok) p)
 
-  pub bound-walks : (z : ℕ) → (e : has z (boundOf t members list) ≡ true) → Walks edge edge-low z (bound-low z e) X
-  bound-walks z e = least-walks edge edge-low z (bound-low z e) X (ok .low) (bound-apart z e) (bound-reached z e)
+  pub bound-walks : (z : ℕ) → (e : has z (boundOf t members list) ≡ true) → Walks edge low z (bound-low t members list d ok z e) X
+  bound-walks z e = least-walks edge low z (bound-low t members list d ok z e) X (ok .low) (bound-apart t members list d ok z e) (bound-reached z e)
 
   -- In plain words: an object of the bound has its least chain
   pub bound-chain : (z : ℕ) → has z (boundOf t members list) ≡ true → Chain edge z X (leastChain edge X z)
   bound-chain z e =
       let w = bound-walks z e in
-      rw (w .walks) (walk-chain edge edge-low z (bound-low z e) (w .count) X (ok .low) (w .exact))
+      rw (w .walks) (walk-chain edge low z (bound-low t members list d ok z e) (w .count) X (ok .low) (w .exact))
 
   -- the last link of a chain
   chain-end : {P : Type 0} {x z : ℕ} {cs : List ℕ} → Chain edge z x cs → ((y : ℕ) → edge y z ≡ true → P) → P
@@ -111,10 +56,10 @@ module _ (t : Table) (members : ℕ) (list : List Capability) (d : Sound t) (ok 
 
   -- In plain words: what a chain leads to is a born non-member, in the bound
   pub chain-born : {x z : ℕ} {cs : List ℕ} → Chain edge z x cs → takesPart t z ≡ true
-  chain-born {x} {z} c = chain-end c (λ y e. let f = edge-facts y z e in node-born z (link-nodes y z (f .linked) .1) (f .out))
+  chain-born {x} {z} c = chain-end c (λ y e. let f = edge-facts t members list d ok y z e in node-born t members list d ok z (link-nodes t members list d ok y z (f .linked) .1) (f .out))
 
   pub chain-bound : {z : ℕ} {cs : List ℕ} → Chain edge z X cs → has z (boundOf t members list) ≡ true
   chain-bound {z} c = chain-end c (λ y e.
-      let f = edge-facts y z e in
-      bound-is z (edge-low y z e .1)
-      ∙ and-intro _ _ (path-reached (link H) link-low X z (ok .low) (path-into edge (link H) X (λ u v n q. edge-facts u v q .linked) (chain-path edge edge-low z (edge-low y z e .1) c))) (rw (f .out) refl))
+      let f = edge-facts t members list d ok y z e in
+      bound-is t members list d ok z (low y z e .1)
+      ∙ and-intro _ _ (path-reached (link H) (link-low t members list d ok) X z (ok .low) (path-into edge (link H) X (λ u v n q. edge-facts t members list d ok u v q .linked) (chain-path edge low z (low y z e .1) c))) (rw (f .out) refl))

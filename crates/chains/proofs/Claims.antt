@@ -26,12 +26,13 @@ use Rattle.walks.specs.Chains.{Chain, last, more, First, leastChain, walked}
 use Rattle.walks.proofs.Shortest.{first-alone, none-shorter, walk-first, walk-length}
 use Rattle.walks.proofs.Layered.{Walks}
 use Rattle.walks.proofs.Lengths.{least-long, none-padded}
-use Rattle.chains.specs.Links.{linked, chainLink}
+use Rattle.confinement.specs.Links.{linked, objectLink}
 use Rattle.chains.specs.Answers.{chainNumber, badObject, chainReply, shown, chainOf}
 use Rattle.chains.specs.Exactness.{numbersOf, before, ChainTo, Reaches, by, Shows, LinkComputed, LinkOfTest, LinksThere, ChainShown, NoneShorter, NoneFirst, OnlyOne, ChainForBound, ShownForBound, AtMost63, NoneOnRefusal}
-use Rattle.chains.proofs.LinkFacts.{linked-link, link-linked, linked-test}
+use Rattle.confinement.proofs.LinkFacts.{linked-link, link-linked, linked-test}
 use Rattle.chains.proofs.Answered.{numbers-shown, fit-object, Found, done-found, found-reply, done-shown, refused-shown}
-use Rattle.chains.proofs.BoundChains.{edge-low, bound-low, bound-out, bound-walks, bound-chain, chain-born, chain-bound}
+use Rattle.confinement.proofs.ObjectLinks.{edge-low, bound-low, bound-out}
+use Rattle.chains.proofs.BoundChains.{bound-walks, bound-chain, chain-born, chain-bound}
 
 -- a link for each place of a chain
 abbrev beforeIn : ℕ → List ℕ → ℕ → ℕ
@@ -45,8 +46,8 @@ chain-at edge (more e c) zero h = e
 chain-at edge (more e c) (suc zero) h = chain-at edge c zero (omega (arith, h))
 chain-at edge (more e c) (suc (suc i)) h = chain-at edge c (suc i) (omega (arith, h))
 
-edge-linked : (t : Table) (members : ℕ) (list : List Capability) (u v : ℕ) → chainLink t members list u v ≡ true → linked t members list u v ≡ true
-unfolding chainLink
+edge-linked : (t : Table) (members : ℕ) (list : List Capability) (u v : ℕ) → objectLink t members list u v ≡ true → linked t members list u v ≡ true
+unfolding objectLink
 edge-linked t members list u v e = and-true (not (has v members)) (linked t members list u v) e .1
 
 -- of an accepted test ------------------------------------------------------------------------------
@@ -61,7 +62,7 @@ module _ (t : Table) (members : ℕ) (list : List Capability) (table : IsTable t
   X = standIn members
 
   abbrev edge : ℕ → ℕ → Bool
-  edge = chainLink t members list
+  edge = objectLink t members list
 
   bound-fits : (z : ℕ) → has z (boundOf t members list) ≡ true → badObject t members z ≡ false
   bound-fits z e = fit-object t members z (chain-born t members list d ok (bound-chain t members list d ok z e)) (bound-out t members list d ok z e)
@@ -92,13 +93,13 @@ module _ (t : Table) (members : ℕ) (list : List Capability) (z : ℕ) (s : Sho
   found = done-found t members list z (s .done)
 
   abbrev least : List ℕ
-  least = leastChain (chainLink t members list) (standIn members) z
+  least = leastChain (objectLink t members list) (standIn members) z
 
   answer : chainOf t members list z ≡ shown Done (walked least)
   answer = done-shown t members list z (s .done)
 
   shown-numbers : numbersOf (chainOf t members list z) ≡ least
-  shown-numbers = ap numbersOf answer ∙ numbers-shown Done least (least-long (chainLink t members list) (standIn members) z)
+  shown-numbers = ap numbersOf answer ∙ numbers-shown Done least (least-long (objectLink t members list) (standIn members) z)
 
   shown-count : chainOf t members list z .count ≡ length least
   shown-count = ap (λ (r : Shown). r .count) answer
@@ -109,11 +110,14 @@ module _ (t : Table) (members : ℕ) (list : List Capability) (z : ℕ) (s : Sho
 
   shown-at : (i : ℕ) → i < length least → getD (chainOf t members list z .numbers) i 0 ≡ getD least i 0
   shown-at i h = ap (λ (r : Shown). getD (r .numbers) i 0) answer
-      ∙ getD-padded 63 0 least i (omega (arith, least-long (chainLink t members list) (standIn members) z, h))
+      ∙ getD-padded 63 0 least i (omega (arith, least-long (objectLink t members list) (standIn members) z, h))
 
   before-at : (i : ℕ) → i < length least → before members (chainOf t members list z) i ≡ beforeIn (standIn members) least i
   before-at zero h = refl
   before-at (suc i) h = shown-at i (omega (arith, h))
+
+  pub numbers-long : length (numbersOf (chainOf t members list z)) ≡ chainOf t members list z .count
+  numbers-long = ap length shown-numbers ∙ sym shown-count
 
 -- the statements ---------------------------------------------------------------------------------------
 pub link-computed : LinkComputed
@@ -131,7 +135,7 @@ unfolding LinksThere
 links-there t members list z s i h =
     let g : i < length (least t members list z s) = omega (arith, h, shown-count t members list z s) in
     linked-link t members list _ _ (edge-linked t members list _ _
-    (rw (before-at t members list z s i g, shown-at t members list z s i g) (chain-at (chainLink t members list) (least-chain t members list z s) i g)))
+    (rw (before-at t members list z s i g, shown-at t members list z s i g) (chain-at (objectLink t members list) (least-chain t members list z s) i g)))
 
 pub chain-shown : ChainShown
 unfolding ChainShown
@@ -165,7 +169,7 @@ unfolding ChainForBound
 chain-for-bound t members list a z =
     let ok = accepted-facts t members list (a .accepted) in
     let d = sound-facts t (table-sized t (a .table)) (ok .fine) in
-    (λ e. by (leastChain (chainLink t members list) (standIn members) z) (bound-chain t members list d ok z e), λ r. ends d ok r)
+    (λ e. by (leastChain (objectLink t members list) (standIn members) z) (bound-chain t members list d ok z e), λ r. ends d ok r)
   where
     ends : Sound t → Facts t members list → Reaches t members list z → has z (boundOf t members list) ≡ true
     ends d ok (by cs c) = chain-bound t members list d ok c
@@ -180,7 +184,7 @@ shown-for-bound t members list a z = (
 pub at-most-63 : AtMost63
 unfolding AtMost63
 at-most-63 t members list z = byCases (eqb (chainNumber (chainReply t members list z)) 0)
-    (λ e. omega (arith, ap (λ (r : Shown). r .count) (done-shown t members list z (eqb-true _ 0 e)), least-long (chainLink t members list) (standIn members) z))
+    (λ e. omega (arith, ap (λ (r : Shown). r .count) (done-shown t members list z (eqb-true _ 0 e)), least-long (objectLink t members list) (standIn members) z))
     (λ e. omega (arith, ap (λ (r : Shown). r .count) (refused-shown t members list z e)))
 
 pub none-on-refusal : NoneOnRefusal

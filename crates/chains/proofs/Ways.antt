@@ -23,30 +23,20 @@ use Rattle.confinement.specs.declared.Tested.{Tested}
 use Rattle.confinement.specs.Refusals.{verdictNumber, verdictOf}
 use Rattle.confinement.specs.Tests.{isAccepted, testOf}
 use Rattle.confinement.proofs.TestFacts.{accepted-facts}
-use Rattle.confinement.proofs.Verdicts.{accepted-is}
+use Rattle.confinement.proofs.Verdicts.{test-verdict, test-bound}
 use Rattle.chains.specs.declared.ChainReply.{ChainReply}
 use Rattle.chains.specs.declared.ChainReply.the-variants.{Done, TestRefused, ObjectInvalid, OutsideBound}
 use Rattle.chains.specs.declared.Shown.{Shown}
 use Rattle.walks.specs.Chains.{leastChain, walked}
-use Rattle.chains.specs.Links.{chainLink}
+use Rattle.confinement.specs.Links.{objectLink}
 use Rattle.chains.specs.Answers.{chainNumber, badObject, objectReply, chainReply, shown, notShown, chainOf}
 use Rattle.chains.proofs.Answered.{fit-object, member-bad, unfit-object}
 
 -- the ways out ----------------------------------------------------------------------------------
 module _ (t : Table) (members : ℕ) (list : List Capability) (z : ℕ) where
-  verdict-same : testOf t members list .verdict ≡ verdictOf t members list
-  unfolding testOf
-  verdict-same = byCases (isAccepted (verdictOf t members list))
-      (λ e. rw (e, testOf) (sym (accepted-is (verdictOf t members list) e)))
-      (λ e. rw (e, testOf) refl)
-
-  bound-same : isAccepted (verdictOf t members list) ≡ true → testOf t members list .bound ≡ boundOf t members list
-  unfolding testOf
-  bound-same e = rw (e, testOf) refl
-
   module _ (tested : Tested) (s : tested ≡ testOf t members list) (a : Bool) (ea : a ≡ isAccepted (tested .verdict)) where
     verdict : tested .verdict ≡ verdictOf t members list
-    verdict = ap (λ (r : Tested). r .verdict) s ∙ verdict-same
+    verdict = ap (λ (r : Tested). r .verdict) s ∙ test-verdict t members list
 
     pub verdict-accepted : (b : Bool) → a ≡ b → isAccepted (verdictOf t members list) ≡ b
     verdict-accepted b e = ap isAccepted (sym verdict) ∙ sym ea ∙ e
@@ -94,20 +84,20 @@ module _ (t : Table) (members : ℕ) (list : List Capability) (z : ℕ) where
         fits = not-true (badObject t members z) (fit true e18)
 
         pub inside : (c : Bool) → b ≡ c → has z (boundOf t members list) ≡ c
-        inside c e = ap (has z) (sym (ap (λ (r : Tested). r .bound) s ∙ bound-same is-accepted)) ∙ sym eb ∙ e
+        inside c e = ap (has z) (sym (ap (λ (r : Tested). r .bound) s ∙ test-bound t members list is-accepted)) ∙ sym eb ∙ e
 
         pub out-19 : b ≡ false → notShown OutsideBound ≡ chainOf t members list z
         unfolding objectReply
         out-19 e = by-reply OutsideBound (object-reply OutsideBound (rw (fits, inside false e, objectReply) refl)) refl
 
-        pub out-0 : b ≡ true → (r : Shown) (cs : List ℕ) → r ≡ shown Done (walked cs) → cs ≡ leastChain (chainLink t members list) (standIn members) z → r ≡ chainOf t members list z
+        pub out-0 : b ≡ true → (r : Shown) (cs : List ℕ) → r ≡ shown Done (walked cs) → cs ≡ leastChain (objectLink t members list) (standIn members) z → r ≡ chainOf t members list z
         unfolding objectReply chainOf
         out-0 e r cs f g = f ∙ ap (λ (l : List ℕ). shown Done (walked l)) g ∙ rw (object-reply Done (rw (fits, inside true e, objectReply) refl), chainOf) refl
 
 -- a test that is refused alike for two lists --------------------------------------------------------
 pub long-refused : (t : Table) (members : ℕ) (list : List Capability) → 8 < length list → isAccepted (testOf t members list .verdict) ≡ false
 long-refused t members list h = byCases (isAccepted (testOf t members list .verdict))
-    (λ e. let v = ap isAccepted (sym (verdict-same t members list 0)) ∙ e in
+    (λ e. let v = ap isAccepted (sym (test-verdict t members list)) ∙ e in
     absurd (omega (arith, h, accepted-facts t members list (eqb-true (verdictNumber (verdictOf t members list)) 0 v) .short)))
     (λ e. e)
 

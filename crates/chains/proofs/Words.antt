@@ -22,16 +22,17 @@ use Rattle.links.specs.Links.{linkWords, wordEdge, slotHolding, joined, entryLi
 use Rattle.links.proofs.Edges.{words-edge, links-are-edges}
 use Rattle.bounds.specs.declared.EntryList.{EntryList}
 use Rattle.bounds.specs.StandIn.{entriesOf, standIn, testHolding, boundOf}
+use Rattle.bounds.proofs.TestLinks.{code-links}
 use Rattle.confinement.specs.Refusals.{verdictNumber, verdictOf}
 use Rattle.confinement.specs.Tests.{isAccepted}
 use Rattle.confinement.proofs.TestFacts.{Facts, accepted-facts}
 use Rattle.walks.specs.Chains.{Chain, last, more, leastChain}
 use Rattle.walks.specs.Helpers.{inRange}
-use Rattle.chains.specs.Links.{linked, chainLink}
+use Rattle.confinement.specs.Links.{linked, objectLink}
 use Rattle.chains.specs.Helpers.{chainWords, lessWords}
-use Rattle.chains.proofs.TestLinks.{test-links}
-use Rattle.chains.proofs.LinkFacts.{linked-test}
-use Rattle.chains.proofs.BoundChains.{edge-low, bound-chain}
+use Rattle.confinement.proofs.LinkFacts.{linked-test}
+use Rattle.confinement.proofs.ObjectLinks.{edge-low}
+use Rattle.chains.proofs.BoundChains.{bound-chain}
 
 -- the words ---------------------------------------------------------------------------------
 chain-in-range : {edge : ℕ → ℕ → Bool} {z x : ℕ} {cs : List ℕ} → ((u v : ℕ) → edge u v ≡ true → (u < 64) × (v < 64)) → Chain edge z x cs → inRange cs ≡ true
@@ -41,11 +42,11 @@ chain-in-range {edge} {z} {x} low (more {y = y} {cs = cs} e c) = and-intro (ltb 
 
 module _ (t : Table) (members : ℕ) (list : List Capability) (d : Sound t) (ok : Facts t members list) where
   abbrev edge : ℕ → ℕ → Bool
-  edge = chainLink t members list
+  edge = objectLink t members list
 
   -- the words of the test's holding, without the members
   less-same : (x v : ℕ) → x < 64 → v < 64 → (has v (getD (linkWords (testHolding t members list)) x 0) && not (has v members)) ≡ edge x v
-  unfolding chainLink
+  unfolding objectLink
   less-same x v hx hv =
       ap (λ (b : Bool). b && not (has v members)) (links-are-edges (testHolding t members list) x v hx hv ∙ sym (linked-test t members list d ok x v))
       ∙ and-comm (linked t members list x v) _
@@ -103,12 +104,9 @@ module _ (t : Table) (members : ℕ) (l : EntryList) (sized : Sized t) (accepted
   pub accepted-low : (x : ℕ) → x ≡ standIn members → x < 64
   accepted-low x e = rw e (accepted-ok .low)
 
-  pub code-links : (outside x : ℕ) (own words r : List ℕ) → outside ≡ bornOutside (t .records) members → x ≡ standIn members
-      → own ≡ linkWords (slotHolding (t .slots) outside) → words ≡ joined own (entryLink (l .entries) (l .count) outside x) → r ≡ lessWords words members
+  pub object-words : (outside x : ℕ) (words r : List ℕ) → outside ≡ bornOutside (t .records) members → x ≡ standIn members
+      → words ≡ joined (linkWords (slotHolding (t .slots) outside)) (entryLink (l .entries) (l .count) outside x) → r ≡ lessWords words members
       → r ≡ chainWords t members (entriesOf l)
-  code-links outside x own words r o e f g h =
-      let w : words ≡ linkWords (testHolding t members (entriesOf l)) = g
-      ∙ ap (λ (v : List ℕ). joined v (entryLink (l .entries) (l .count) outside x)) f
-      ∙ (λ i. joined (linkWords (slotHolding (t .slots) (o i))) (entryLink (l .entries) (l .count) (o i) (e i)))
-      ∙ test-links t members l (accepted-ok .low) in
-      h ∙ ap (λ (v : List ℕ). lessWords v members) w ∙ less-links t members (entriesOf l) accepted-sound accepted-ok
+  object-words outside x words r o e f h = h
+      ∙ ap (λ (v : List ℕ). lessWords v members) (code-links t members l outside x words (accepted-ok .low) o e f)
+      ∙ less-links t members (entriesOf l) accepted-sound accepted-ok

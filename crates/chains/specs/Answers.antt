@@ -16,7 +16,7 @@ use Rattle.confinement.specs.Tests.{isAccepted}
 use Rattle.chains.specs.declared.ChainReply.{ChainReply}
 use Rattle.chains.specs.declared.ChainReply.the-variants.{Done, TestRefused, ObjectInvalid, OutsideBound}
 use Rattle.chains.specs.declared.Shown.{Shown}
-use Rattle.chains.specs.Links.{chainLink}
+use Rattle.confinement.specs.Links.{objectLink}
 
 abbrev pub chainNumber : ChainReply → ℕ
 chainNumber Done = 0
@@ -55,6 +55,6 @@ notShown why = shown why (walked [])
 unfoldable pub chainOf : Table → ℕ → List Capability → ℕ → Shown
 chainOf t members list object =
     elim (eqb (chainNumber (chainReply t members list object)) 0) [
-      | true ↦ shown Done (walked (leastChain (chainLink t members list) (standIn members) object))
+      | true ↦ shown Done (walked (leastChain (objectLink t members list) (standIn members) object))
       | false ↦ notShown (chainReply t members list object)
     ]

@@ -1,9 +1,10 @@
--- What document 02, 2.1 claims of the chain, as statements; proofs/Claims.antt proves them.
+-- What document 02, 2.1 claims of the chain, and 2.6 of chains, as statements; proofs/Claims.antt and proofs/Most.antt prove them.
 use mathlib.Core.Path.{_≡_}
 use mathlib.Core.Logic.{_↔_}
-use mathlib.Core.Bool.{true}
+use mathlib.Core.Bool.{true, false}
 use mathlib.Core.List.{List}
 use Prim.Native.Nat.{ℕ, zero, suc, _≤_, _<_}
+use lib.Dec.{ltb}
 use lib.ListN.{length, getD, replicate}
 use Rattle.mask.specs.Sets.{has}
 use Rattle.table.specs.declared.Capability.{Capability}
@@ -13,9 +14,10 @@ use Rattle.table.specs.Cells.{IsTable}
 use Rattle.relation.specs.Closure.{link}
 use Rattle.bounds.specs.StandIn.{standIn, testHolding, boundOf}
 use Rattle.walks.specs.Chains.{Chain, First}
-use Rattle.confinement.specs.Refusals.{verdictNumber, verdictOf}
+use Rattle.confinement.specs.Tests.{testOf}
+use Rattle.confinement.specs.Exactness.{Accepts}
 use Rattle.chains.specs.declared.Shown.{Shown}
-use Rattle.chains.specs.Links.{Link, linked, chainLink}
+use Rattle.confinement.specs.Links.{Link, linked, objectLink}
 use Rattle.chains.specs.Answers.{chainNumber, chainReply, chainOf}
 
 -- the numbers that an answer shows
@@ -29,16 +31,12 @@ before members s (suc i) = getD (s .numbers) i 0
 
 -- a chain from the stand-in to z, and that there is one
 abbrev pub ChainTo : Table → ℕ → List Capability → ℕ → List ℕ → Type 0
-ChainTo t members list z cs = Chain (chainLink t members list) z (standIn members) cs
+ChainTo t members list z cs = Chain (objectLink t members list) z (standIn members) cs
 
 pub data Reaches (t : Table) (members : ℕ) (list : List Capability) (z : ℕ) : Type 0 where
   by : (cs : List ℕ) → ChainTo t members list z cs → Reaches t members list z
 
--- a test that is accepted, and a chain that is shown, of a table value
-pub record Accepts (t : Table) (members : ℕ) (list : List Capability) : Type 0 where
-  pub table : IsTable t
-  pub accepted : verdictNumber (verdictOf t members list) ≡ 0
-
+-- a chain that is shown, of a table value
 pub record Shows (t : Table) (members : ℕ) (list : List Capability) (object : ℕ) : Type 0 where
   pub table : IsTable t
   pub done : chainNumber (chainReply t members list object) ≡ 0
@@ -97,3 +95,15 @@ AtMost63 = (t : Table) (members : ℕ) (list : List Capability) (object : ℕ) �
 unfoldable pub NoneOnRefusal : Type 0
 NoneOnRefusal = (t : Table) (members : ℕ) (list : List Capability) (object k : ℕ) → chainNumber (chainReply t members list object) ≡ suc k
     → (chainOf t members list object .count ≡ 0) × (chainOf t members list object .numbers ≡ replicate 63 0)
+
+-- 2.6: "The number equals the most links in any of 2.1's chains, 0 for an empty bound". A chain of k numbers has k links, and to an object
+-- outside the bound there is none
+unfoldable pub mostBelow : ℕ → (ℕ → ℕ) → ℕ
+mostBelow zero f = 0
+mostBelow (suc n) f = elim (ltb (mostBelow n f) (f n)) [ true ↦ f n | false ↦ mostBelow n f ]
+
+unfoldable pub mostLinks : Table → ℕ → List Capability → ℕ
+mostLinks t members list = mostBelow 64 (λ z. chainOf t members list z .count)
+
+unfoldable pub MostLinks : Type 0
+MostLinks = (t : Table) → IsTable t → (members : ℕ) (list : List Capability) → testOf t members list .rounds ≡ mostLinks t members list

@@ -6,11 +6,11 @@ use Rattle.mask.specs.Sets.{bits, lessOf}
 use Rattle.table.specs.declared.Capability.{Capability}
 use Rattle.table.specs.declared.Table.{Table}
 use Rattle.table.specs.Lists.{tabulate}
-use Rattle.chains.specs.Links.{chainLink}
+use Rattle.confinement.specs.Links.{objectLink}
 
 -- word u: the numbers one link of a chain from u
 unfoldable pub chainWords : Table → ℕ → List Capability → List ℕ
-chainWords t members list = tabulate 64 (λ u. bits 64 (chainLink t members list u))
+chainWords t members list = tabulate 64 (λ u. bits 64 (objectLink t members list u))
 
 -- each word without the members
 unfoldable pub lessWords : List ℕ → ℕ → List ℕ

@@ -1,5 +1,4 @@
--- Document 02, 2.1: links, which chain is shown, and what is claimed of it.
-pub mod Links
+-- Document 02, 2.1: which chain is shown, and what is claimed of it.
 pub mod Answers
 pub mod Exactness
 pub mod Helpers

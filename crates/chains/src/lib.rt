@@ -65,19 +65,13 @@ fn less_words(words: [u64; 64], members: u64) -> [u64; 64]
     r
 }
 
-// The links of a chain, for an accepted test; `outside` are the born non-members, x is the stand-in's number.
+// The links to objects, for an accepted test; `outside` are the born non-members, x is the stand-in's number.
 fn chain_links(t: Table, members: u64, l: EntryList, outside: u64, x: u8) -> [u64; 64]
     requires { ⌜ (isAccepted (verdictOf t members (entriesOf l)) ≡ true) × (outside ≡ bornOutside (t .records) members) × (x ≡ standIn members) ⌝ }
     ensures { λ r. ⌜ r ≡ chainWords t members (entriesOf l) ⌝ }
 {
-    let slots = t.slots;
-    let entries = l.entries;
-    let count = l.count as usize;
-    let held = links::slot_links(slots, outside);
-    less_words(
-        links::with_entries(held, entries, count, outside, x),
-        members,
-    )
+    let words = bounds::test_links(t, l, outside, x);
+    less_words(words, members)
 }
 
 // The chain to an object: the test's own refusals, then 18, then 19.

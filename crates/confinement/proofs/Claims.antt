@@ -1,18 +1,18 @@
 -- What 2.3 claims of the test. Exactly wk passes, whatever is listed, and so two tables, both sound or neither, that differ only in
 -- members' slots that are empty or hold exactly wk get the same answer; any other capability of a member needs each of its rights
--- listed; an entry of wk alone stays legal; and an accepted test gives the same verdict and bound with such entries put in.
+-- listed; an entry of wk alone stays legal; and an accepted test gives the same verdict, bound and rounds with such entries put in.
 -- Assumes nothing.
-use mathlib.Core.Path.{_≡_, refl, sym, _∙_, ap, ap₂}
+use mathlib.Core.Path.{_≡_, refl, sym, _∙_, ap, ap₂, fun-ext}
 use mathlib.Core.Logic.{⊎-elim}
 use mathlib.Core.Bool.{Bool, true, false, not, _&&_, _||_}
-use mathlib.Core.List.{List}
+use mathlib.Core.List.{List, _∷_}
 use Prim.Native.Nat.{ℕ}
 use lib.Dec.{ltb, eqb}
 use lib.ListN.{length}
-use borrow.Author.Tests.{eqb-true, eq-eqb}
+use borrow.Author.Tests.{eqb-true, eq-eqb, ne-eqb}
 use Rattle.mask.specs.Sets.{has, anyBelow}
 use Rattle.mask.proofs.Tests.{byCases, byEq, clash, and-true, and-intro, and-false, or-cases, or-left, or-right, imply-intro}
-use Rattle.mask.proofs.Below.{any-ext}
+use Rattle.mask.proofs.Below.{any-ext, any-first}
 use Rattle.mask.proofs.Bits.{has-zero}
 use Rattle.table.specs.declared.Capability.{Capability}
 use Rattle.table.specs.declared.Record.{Record}
@@ -21,18 +21,23 @@ use Rattle.table.specs.Cells.{slotAt, isAlive, isEmpty}
 use Rattle.table.specs.Soundness.{sound}
 use Rattle.relation.specs.Relation.{Right, rd, wr, wk, tx, bitAt}
 use Rattle.relation.proofs.Tables.{part-same}
-use Rattle.bounds.specs.StandIn.{entryAt, listed, boundOf}
-use Rattle.bounds.specs.Exactness.{BoundBlind, WithWeak, WeakEntriesFree}
+use Rattle.links.specs.Links.{capabilityLink}
+use Rattle.links.specs.Rounds.{roundsFrom}
+use Rattle.bounds.specs.StandIn.{entryAt, listed, standIn, boundOf}
+use Rattle.bounds.specs.Agreement.{AgreeOutside}
+use Rattle.bounds.specs.Exactness.{BoundBlind, WithWeak, none, kept, put, WeakEntriesFree}
 use Rattle.bounds.proofs.Exact.{bound-blind}
 use Rattle.bounds.proofs.Weak.{listed-still, weak-entries-free}
-use Rattle.confinement.specs.declared.Verdict.{Verdict}
 use Rattle.confinement.specs.declared.Verdict.the-variants.{Accepted}
 use Rattle.confinement.specs.declared.Tested.{Tested}
 use Rattle.confinement.specs.Refusals.{verdictNumber, badMembers, badEntry, badList, rightListed, allListed, passes, badHeld, memberHeld, verdictOf}
+use Rattle.confinement.specs.Links.{slotsLink, listLink, linked, objectLink}
+use Rattle.confinement.specs.Rounds.{roundsOf}
 use Rattle.confinement.specs.Tests.{isAccepted, refusedTest, testOf}
-use Rattle.confinement.specs.Exactness.{WeakPasses, emptyOrWeak, AlikeButWeak, WeakNoMatter, OthersListed, WeakLegal, WeakChangesNothing}
+use Rattle.confinement.specs.Exactness.{WeakPasses, emptyOrWeak, AlikeButWeak, WeakNoMatter, OthersListed, WeakLegal, WeakChangesNothing, RoundsBlind}
 use Rattle.confinement.proofs.Scans.{missing}
-use Rattle.confinement.proofs.TestFacts.{listed-each, passed-listed, no-row, slot-passes}
+use Rattle.confinement.proofs.TestFacts.{listed-each, passed-listed, no-row, slot-passes, accepted-facts}
+use Rattle.confinement.proofs.Rounds.{rounds-blind}
 use Rattle.confinement.proofs.Verdicts.{accepted-is, accepted}
 
 pub weak-passes : WeakPasses
@@ -100,15 +105,24 @@ module _ (t u : Table) (members : ℕ) (list : List Capability) (like : AlikeBut
   unfolding verdictOf
   same-verdict e = cc (e, same-members, same-list, same-held, same-outside)
 
+  agree : AgreeOutside members t u
+  agree = record { records = λ n h o. like .records n h; slots = like .others }
+
   same-bound : boundOf t members list ≡ boundOf u members list
   unfolding BoundBlind
-  same-bound = bound-blind members t u (record { records = λ n h o. like .records n h; slots = like .others }) list
+  same-bound = bound-blind members t u agree list
+
+  same-rounds : roundsOf t members list ≡ roundsOf u members list
+  unfolding RoundsBlind
+  same-rounds = rounds-blind members t u agree list
 
 pub weak-no-matter : WeakNoMatter
 unfolding WeakNoMatter testOf
 weak-no-matter t u members list e like =
-    ap₂ (λ (v : Verdict) (b : ℕ). elim (isAccepted v) as (λ k. Tested) [ true ↦ record { verdict = Accepted; bound = b } | false ↦ refusedTest v ])
-    (same-verdict t u members list like e) (same-bound t u members list like)
+    (λ i. elim (isAccepted (same-verdict t u members list like e i)) as (λ k. Tested) [
+      | true ↦ record { verdict = Accepted; bound = same-bound t u members list like i; rounds = same-rounds t u members list like i }
+      | false ↦ refusedTest (same-verdict t u members list like e i)
+    ])
 
 pub weak-legal : WeakLegal
 unfolding WeakLegal badEntry
@@ -120,6 +134,10 @@ unfolding WeakPasses
 still-passes {list} {longer} w c e = byEq (c .rights) 4
     (λ q. weak-passes longer c q)
     (λ q. listed-passes longer c (each-listed longer c (λ b h. listed-still w b (c .target) (listed-each list c b (passed-listed list c e q) h))))
+
+list-cons : (members : ℕ) (e : Capability) (list : List Capability) (u v : ℕ) → listLink members (e ∷ list) u v ≡ (capabilityLink (standIn members) e u v || listLink members list u v)
+unfolding listLink
+list-cons members e list u v = any-first (length list) (λ k. capabilityLink (standIn members) (entryAt (e ∷ list) k) u v)
 
 module _ (t : Table) (members : ℕ) (list longer : List Capability) (w : WithWeak list longer) where
   still-held : badHeld t members list ≡ false → badHeld t members longer ≡ false
@@ -134,9 +152,33 @@ module _ (t : Table) (members : ℕ) (list longer : List Capability) (w : WithWe
   unfolding verdictOf
   still-accepted e f = let r = no-row t members list e in rw (r .row1, r .row10, f, still-held (r .row12), r .row13) refl
 
+  -- and has the same links to objects: a wk link of an entry leads to the stand-in, which is a member
+  module _ (lowest : has (standIn members) members ≡ true) where
+    weak-link : (e : Capability) (u v : ℕ) → e .rights ≡ 4 → has v members ≡ false → capabilityLink (standIn members) e u v ≡ false
+    unfolding capabilityLink
+    weak-link e u v q o = rw (q, ne-eqb v (standIn members) (λ p. clash lowest (rw p at o))) (and-false (eqb u (e .target)))
+
+    same-listed : {short long : List Capability} → WithWeak short long → (u v : ℕ) → has v members ≡ false → listLink members long u v ≡ listLink members short u v
+    same-listed none u v o = refl
+    same-listed (kept e {list = short} {longer = long} z) u v o = list-cons members e long u v
+        ∙ ap (λ (b : Bool). capabilityLink (standIn members) e u v || b) (same-listed z u v o) ∙ sym (list-cons members e short u v)
+    same-listed (put e {list = short} {longer = long} q z) u v o = list-cons members e long u v
+        ∙ ap₂ (λ (a b : Bool). a || b) (weak-link e u v q o) (same-listed z u v o)
+
+    same-link : (u v : ℕ) → objectLink t members longer u v ≡ objectLink t members list u v
+    unfolding objectLink linked
+    same-link u v = byCases (has v members)
+        (λ o. rw o refl)
+        (λ o. ap (λ (b : Bool). not (has v members) && (slotsLink t members u u v || slotsLink t members v u v || b)) (same-listed w u v o))
+
+    still-rounds : roundsOf t members longer ≡ roundsOf t members list
+    unfolding roundsOf
+    still-rounds = ap (λ (edge : ℕ → ℕ → Bool). roundsFrom edge (standIn members)) (fun-ext (λ u. fun-ext (λ v. same-link u v)))
+
 pub weak-changes-nothing : WeakChangesNothing
 unfolding WeakChangesNothing WeakEntriesFree
 weak-changes-nothing t members list longer e w f =
+    let lowest = accepted-facts t members list e .lowest in
     sym (accepted t members longer (still-accepted t members list longer w e f))
-    ∙ (λ i. record { verdict = Accepted; bound = weak-entries-free t members list longer w i })
+    ∙ (λ i. record { verdict = Accepted; bound = weak-entries-free t members list longer w i; rounds = still-rounds t members list longer w lowest i })
     ∙ accepted t members list (accepted-is (verdictOf t members list) (eq-eqb (verdictNumber (verdictOf t members list)) 0 e))

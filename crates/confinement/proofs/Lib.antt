@@ -1,5 +1,9 @@
 pub mod TestFacts
 pub mod Scans
-pub mod Verdicts
 pub mod Held
+pub mod LinkFacts
+pub mod ObjectLinks
+pub mod Rounds
+pub mod Verdicts
 pub mod Claims
+pub mod Reported

@@ -10,15 +10,21 @@ use Rattle.mask.proofs.Tests.{byCases}
 use Rattle.table.specs.declared.Capability.{Capability}
 use Rattle.table.specs.declared.Table.{Table}
 use Rattle.table.specs.Soundness.{sound}
+use Rattle.table.proofs.Cells.{Sized}
+use Rattle.table.proofs.SoundFacts.{sound-facts}
 use Rattle.access.specs.Answers.{bornOutside}
 use Rattle.confinement.specs.declared.Verdict.{Verdict}
 use Rattle.confinement.specs.declared.Verdict.the-variants.{Accepted, TableUnsound, MembersInvalid, ListInvalid, RightUnlisted, MemberHeld}
+use Rattle.bounds.specs.declared.Grown.{Grown}
 use Rattle.bounds.specs.StandIn.{standIn, boundOf}
+use Rattle.bounds.specs.Helpers.{boundGrown}
+use Rattle.confinement.specs.Rounds.{roundsOf}
 use Rattle.confinement.specs.Refusals.{verdictNumber, refuse, badMembers, badList, badHeld, memberHeld, verdictOf}
 use Rattle.confinement.specs.Tests.{isAccepted, refusedTest, testOf}
 use Rattle.confinement.specs.Helpers.{listRefused}
 use Rattle.confinement.proofs.Scans.{list-same}
-use Rattle.confinement.proofs.TestFacts.{members-facts}
+use Rattle.confinement.proofs.TestFacts.{members-facts, accepted-facts}
+use Rattle.confinement.proofs.Rounds.{rounds-links}
 
 pub accepted-is : (v : Verdict) → isAccepted v ≡ true → v ≡ Accepted
 accepted-is Accepted e = refl
@@ -33,9 +39,40 @@ module _ (t : Table) (members : ℕ) (list : List Capability) where
   unfolding testOf
   by-verdict v n e = rw (ap isAccepted e ∙ n, testOf) (ap refusedTest (sym e))
 
-  pub accepted : verdictOf t members list ≡ Accepted → record { verdict = Accepted; bound = boundOf t members list } ≡ testOf t members list
+  pub accepted : verdictOf t members list ≡ Accepted
+      → record { verdict = Accepted; bound = boundOf t members list; rounds = roundsOf t members list } ≡ testOf t members list
   unfolding testOf
   accepted e = rw (ap isAccepted e, testOf) refl
+
+  -- with what the code found
+  accepted-found : Sized t → verdictOf t members list ≡ Accepted → (found : Grown) → found ≡ boundGrown t members list
+      → record { verdict = Accepted; bound = found .bound; rounds = found .rounds } ≡ testOf t members list
+  unfolding boundGrown
+  accepted-found z e found g =
+      let ok = accepted-facts t members list (ap verdictNumber e) in
+      let d = sound-facts t z (ok .fine) in
+      ap (λ (f : Grown). record { verdict = Accepted; bound = f .bound; rounds = f .rounds }) g
+      ∙ ap (λ (r : ℕ). record { verdict = Accepted; bound = boundOf t members list; rounds = r }) (rounds-links t members list d ok)
+      ∙ accepted e
+
+  -- the answer, field by field
+  pub test-verdict : testOf t members list .verdict ≡ verdictOf t members list
+  unfolding testOf
+  test-verdict = byCases (isAccepted (verdictOf t members list))
+      (λ e. rw (e, testOf) (sym (accepted-is (verdictOf t members list) e)))
+      (λ e. rw (e, testOf) refl)
+
+  pub test-bound : isAccepted (verdictOf t members list) ≡ true → testOf t members list .bound ≡ boundOf t members list
+  unfolding testOf
+  test-bound e = rw (e, testOf) refl
+
+  pub test-rounds : isAccepted (verdictOf t members list) ≡ true → testOf t members list .rounds ≡ roundsOf t members list
+  unfolding testOf
+  test-rounds e = rw (e, testOf) refl
+
+  pub test-none : isAccepted (verdictOf t members list) ≡ false → (testOf t members list .rounds ≡ 0) × (testOf t members list .bound ≡ 0)
+  unfolding testOf
+  test-none e = rw (e, testOf) (refl, refl)
 
   module _ (b1 : Bool) (s1 : b1 ≡ sound t) where
     pub test-1 : b1 ≡ false → refusedTest TableUnsound ≡ testOf t members list
@@ -78,11 +115,10 @@ module _ (t : Table) (members : ℕ) (list : List Capability) where
             unfolding verdictOf
             test-13 e = by-verdict MemberHeld refl (let f : memberHeld t members ≡ true = sym s13 ∙ e in rw (f1, f10, f11 false e11, f12, f) refl)
 
-            pub test-0 : b13 ≡ false → (found : ℕ) → found ≡ boundOf t members list → record { verdict = Accepted; bound = found } ≡ testOf t members list
+            pub test-0 : Sized t → b13 ≡ false → (found : Grown) → found ≡ boundGrown t members list
+                → record { verdict = Accepted; bound = found .bound; rounds = found .rounds } ≡ testOf t members list
             unfolding verdictOf
-            test-0 e found g =
-                (λ i. record { verdict = Accepted; bound = g i })
-                ∙ accepted (let f : memberHeld t members ≡ false = sym s13 ∙ e in rw (f1, f10, f11 false e11, f12, f) refl)
+            test-0 z e = accepted-found z (let f : memberHeld t members ≡ false = sym s13 ∙ e in rw (f1, f10, f11 false e11, f12, f) refl)
 
 -- a sound table is never answered 1
 refuse-not : (cause : Bool) (why rest : Verdict) → verdictNumber why ≢ 1 → verdictNumber rest ≢ 1 → verdictNumber (refuse cause why rest) ≢ 1

@@ -18,23 +18,25 @@ pub enum Verdict {
     MemberHeld,
 }
 
-// The verdict and the bound: empty on every refusal.
+// The verdict, the bound, and the number of rounds that added an object to it: empty and 0 on every refusal.
 pub struct Tested {
     pub verdict: Verdict,
     pub bound: u64,
+    pub rounds: u8,
 }
 
-// A refusal, with an empty bound.
+// A refusal, with an empty bound and no round.
 fn refused(why: Verdict) -> Tested
     ensures { λ r. ⌜ r ≡ refusedTest why ⌝ }
 {
     Tested {
         verdict: why,
         bound: 0,
+        rounds: 0,
     }
 }
 
-// The test: refusals 1, 10, 11, 12 and 13 in this order, then the bound.
+// The test: refusals 1, 10, 11, 12 and 13 in this order, then the bound and the rounds that it grew by.
 pub fn test(t: Table, members: u64, list: EntryList) -> Tested
     ensures { λ r. ⌜ r ≡ testOf t members (entriesOf list) ⌝ }
 {
@@ -58,6 +60,7 @@ pub fn test(t: Table, members: u64, list: EntryList) -> Tested
     let found = bounds::bound(t, members, list, outside);
     Tested {
         verdict: Verdict::Accepted,
-        bound: found,
+        bound: found.bound,
+        rounds: found.rounds,
     }
 }

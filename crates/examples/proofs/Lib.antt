@@ -3,3 +3,4 @@ pub mod Requests
 pub mod Access
 pub mod Images
 pub mod Twelve
+pub mod Rounds

@@ -1,2 +1,3 @@
 pub mod TableK
 pub mod Statement
+pub mod Rounds

@@ -23,6 +23,8 @@ use Rattle.bounds.specs.StandIn.{boundOf}
 use Rattle.confinement.specs.Refusals.{verdictOf, verdictNumber}
 use Rattle.bounds.specs.Agreement.{AgreeOutside}
 use Rattle.bounds.proofs.Exact.{bound-same}
+use Rattle.confinement.specs.Exactness.{RoundsBlind}
+use Rattle.confinement.proofs.Rounds.{rounds-blind}
 use Rattle.confinement.proofs.TestFacts.{accepted-facts}
 use Rattle.requests.specs.Asks.{Ask}
 use Rattle.steps.specs.Steps.{runTable}
@@ -75,12 +77,13 @@ shared-alike t u C D ps qs e s = record {
 }
 
 pub two-runs : TwoRuns
-unfolding TwoRuns
+unfolding TwoRuns RoundsBlind
 two-runs t u members list b =
     let C = cleanAtStart t members list in
     let same = clean-same t u members list (b .agree) in
     record {
       bound = bound-same members t u (b .agree) list;
+      rounds = rounds-blind members t u (b .agree) list;
       runs = λ ps qs e. shared-alike t u C (cleanAtStart u members list) ps qs same
           (runs-alike t u C ps qs
           (accepted-isolated t members list (b .left) (b .accepted-left))

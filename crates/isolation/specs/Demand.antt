@@ -10,6 +10,7 @@ use Rattle.table.specs.declared.Table.{Table}
 use Rattle.table.specs.Cells.{IsTable, recordAt, slotAt}
 use Rattle.bounds.specs.StandIn.{boundOf}
 use Rattle.confinement.specs.Refusals.{verdictOf, verdictNumber}
+use Rattle.confinement.specs.Rounds.{roundsOf}
 use Rattle.bounds.specs.Agreement.{AgreeOutside}
 use Rattle.requests.specs.Asks.{Ask}
 use Rattle.steps.specs.Steps.{runTable}
@@ -35,9 +36,10 @@ pub record BothAccepted (t u : Table) (members : ℕ) (list : List Capability) :
   pub accepted-right : verdictNumber (verdictOf u members list) ≡ 0
   pub agree : AgreeOutside members t u
 
--- what the claim says of two such tables: the same bound, and of any two runs that ask the same of clean objects
+-- what the claim says of two such tables: the same bound, in as many rounds, and of any two runs that ask the same of clean objects
 pub record Same (t u : Table) (members : ℕ) (list : List Capability) : Type 0 where
   pub bound : boundOf t members list ≡ boundOf u members list
+  pub rounds : roundsOf t members list ≡ roundsOf u members list
   pub runs : (ps qs : List Ask)
       → cleanRequests t (cleanAtStart t members list) ps ≡ cleanRequests u (cleanAtStart u members list) qs
       → Alike t u (cleanAtStart t members list) (cleanAtStart u members list) ps qs

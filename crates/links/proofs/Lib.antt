@@ -2,6 +2,7 @@ pub mod Edges
 pub mod Value
 pub mod Rounds
 pub mod Walks
+pub mod Added
 pub mod Joins
 pub mod Unions
 pub mod Holdings

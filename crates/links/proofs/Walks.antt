@@ -1,5 +1,6 @@
--- What the loops of one round and of all rounds keep: the numbers found so far, then the rounds that are left. Assumes nothing.
-use mathlib.Core.Path.{_≡_, sym, _∙_, ap}
+-- What the loops of one round and of all rounds keep: the numbers found so far; what the rounds that are left reach, and how many of them
+-- add something. Assumes nothing.
+use mathlib.Core.Path.{_≡_, sym, _∙_, ap, ap₂}
 use mathlib.Core.Logic.{_≢_}
 use mathlib.Core.Bool.{Bool, true, false, _&&_, _||_}
 use Prim.Native.Nat.{ℕ, suc, _+_, _-_, _^_, _≤_, _<_}
@@ -12,6 +13,8 @@ use Rattle.mask.proofs.Tests.{or-false, or-assoc}
 use Rattle.mask.proofs.Below.{any-last}
 use Rattle.mask.proofs.Bits.{has-bits, bits-lt, bits-same, as-bits, has-zero}
 use Rattle.relation.specs.Closure.{grow, spread, only, mostRounds, reached}
+use Rattle.links.specs.Rounds.{addingFrom}
+use Rattle.links.specs.Helpers.{spreadOf}
 
 -- one round, by a loop over the numbers that are there --------------------------------
 module _ (edge : ℕ → ℕ → Bool) (s : ℕ) where
@@ -53,28 +56,43 @@ pub only-high : (x : ℕ) → 64 ≤ x → 0 ≡ only x
 unfolding only
 only-high x h = as-bits 64 0 _ (omega arith) (λ y hy. has-zero y ∙ sym (ne-eqb y x (λ e. omega arith)))
 
--- all rounds, by a loop that stops where one adds nothing -------------------------------------
+-- all rounds, by a loop that counts them and stops where one adds nothing -------------------------
 module _ (edge : ℕ → ℕ → Bool) (x : ℕ) where
-  -- the rounds that are left after k, from s
-  abbrev pub Going : ℕ → ℕ → Type 0
-  Going s k = spread (mostRounds - k) edge s ≡ reached edge x
+  -- the rounds that are left after k, from s: what they reach, and how many of them add something
+  pub record Going (s k : ℕ) : Type 0 where
+    pub reaches : spread (mostRounds - k) edge s ≡ spreadOf edge x .set
+    pub adds : k + addingFrom (mostRounds - k) edge s (grow edge s) ≡ spreadOf edge x .rounds
 
   pub going-none : (s : ℕ) → s ≡ only x → Going s 0
-  unfolding reached
-  going-none s e = ap (spread mostRounds edge) e
+  unfolding reached spreadOf
+  going-none s e = record {
+    reaches = ap (spread mostRounds edge) e;
+    adds = omega (arith, ap (λ (i : ℕ). addingFrom mostRounds edge i (grow edge i)) e);
+  }
 
   pub going-more : (s t k : ℕ) → k < mostRounds → t ≡ grow edge s → t ≢ s → Going s k → Going t (k + 1)
-  unfolding spread
+  unfolding spread addingFrom
   going-more s t k h e n p =
       let left : mostRounds - k ≡ suc (mostRounds - (k + 1)) = omega arith in
-      rw e (rw (ne-eqb (grow edge s) s (λ q. n (e ∙ q)), spread) at (rw left at p))
+      let new = ne-eqb (grow edge s) s (λ q. n (e ∙ q)) in
+      record {
+        reaches = rw e (rw (new, spread) at (rw left at (p .reaches)));
+        adds = rw e (omega (arith, rw (new, addingFrom) at (rw left at (p .adds))));
+      }
 
-  pub going-still : (s t k : ℕ) → k < mostRounds → t ≡ grow edge s → t ≡ s → Going s k → s ≡ reached edge x
-  unfolding spread
+  spread-is : (s k : ℕ) → s ≡ spreadOf edge x .set → k ≡ spreadOf edge x .rounds → record { set = s; rounds = k } ≡ spreadOf edge x
+  unfolding spreadOf
+  spread-is s k p q = ap₂ (λ (i j : ℕ). record { set = i; rounds = j }) p q
+
+  pub going-still : (s t k : ℕ) → k < mostRounds → t ≡ grow edge s → t ≡ s → Going s k → record { set = s; rounds = k } ≡ spreadOf edge x
+  unfolding spread addingFrom
   going-still s t k h e q p =
       let left : mostRounds - k ≡ suc (mostRounds - (k + 1)) = omega arith in
-      rw (eq-eqb (grow edge s) s (sym e ∙ q), spread) at (rw left at p)
+      let none = eq-eqb (grow edge s) s (sym e ∙ q) in
+      spread-is s k (rw (none, spread) at (rw left at (p .reaches))) (omega (arith, rw (none, addingFrom) at (rw left at (p .adds))))
 
-  pub going-end : (s k : ℕ) → mostRounds ≤ k → Going s k → s ≡ reached edge x
-  unfolding spread
-  going-end s k h p = let left : mostRounds - k ≡ 0 = omega arith in rw left at p
+  pub going-end : (s k : ℕ) → mostRounds ≤ k → Going s k → record { set = s; rounds = k } ≡ spreadOf edge x
+  unfolding spread addingFrom
+  going-end s k h p =
+      let left : mostRounds - k ≡ 0 = omega arith in
+      spread-is s k (rw left at (p .reaches)) (omega (arith, rw left at (p .adds)))

@@ -1,2 +1,3 @@
 pub mod Links
+pub mod Rounds
 pub mod Helpers

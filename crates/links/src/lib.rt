@@ -5,9 +5,15 @@ ghost use mathlib.Core.Path.{_≡_};
 ghost use mathlib.Core.Bool.{true};
 ghost use Prim.Native.Nat.{_≤_, _<_};
 ghost use Rattle.relation.specs.Relation.{tableHolding};
-ghost use Rattle.relation.specs.Closure.{grow, only, reached};
+ghost use Rattle.relation.specs.Closure.{grow, only};
 ghost use Rattle.links.specs.Links.{linkWords, wordEdge, slotHolding, hasStrong, joined, entryLink};
-ghost use Rattle.links.specs.Helpers.{edgeIf, linkIf};
+ghost use Rattle.links.specs.Helpers.{edgeIf, linkIf, spreadOf};
+
+// What rounds reach, and how many of them added something.
+pub struct Spread {
+    pub set: u64,
+    pub rounds: u8,
+}
 
 // Is rd, wr or tx among the rights?
 fn has_strong(rights: u8) -> bool
@@ -109,19 +115,20 @@ pub fn alone(x: u8) -> u64
     if x < 64 { mask::with(0, x) } else { 0 }
 }
 
-// What paths of edges reach from x: rounds until one adds nothing. 64 numbers take at most 63.
-pub fn reach(words: &[u64; 64], x: u8) -> u64
-    ensures { λ r. ⌜ r ≡ reached (wordEdge (now (words .entry))) x ⌝ }
+// What paths of edges reach from x, and in how many rounds: they are counted until one adds nothing. 64 numbers take at most 63.
+pub fn reach(words: &[u64; 64], x: u8) -> Spread
+    ensures { λ r. ⌜ r ≡ spreadOf (wordEdge (now (words .entry))) x ⌝ }
 {
     let mut s = alone(x);
-    let mut k: usize = 0;
+    let mut k: u8 = 0;
     while k < 63 {
         let next = grown(words, s);
+        let one_more = k + 1;
         if next == s {
-            return s;
+            return Spread { set: s, rounds: k };
         }
         s = next;
-        k = k + 1;
+        k = one_more;
     }
-    s
+    Spread { set: s, rounds: k }
 }

@@ -1,5 +1,5 @@
 // Links on the cases of the confinement tests: the table's; those between the born non-members with a holder of the list at the lowest
-// member's number; and what that holder reaches.
+// member's number; in how many rounds, and what, that holder reaches.
 use crate::output;
 use bounds::EntryList;
 use cases::digest;
@@ -34,7 +34,9 @@ fn answer(number: u64, s: &[u8]) {
     output::text(b" ");
     output::digest(digest::of_words(&words));
     output::text(b" ");
-    output::set(links::reach(&words, x));
+    let spread = links::reach(&words, x);
+    output::number(spread.rounds as u64);
+    output::set(spread.set);
     output::text(b"\n");
 }
 

@@ -8,6 +8,7 @@ fn answer(number: u64, s: &[u8]) {
     let verdict = tested.verdict;
     output::number(number);
     output::number(numbers::of_verdict(verdict) as u64);
+    output::number(tested.rounds as u64);
     output::set(tested.bound);
     output::text(b"\n");
 }

@@ -68,6 +68,28 @@ count-pos (suc n) s j h e = byEq j n
     (λ q. let f : has n s ≡ true = rw q at e in rw f (omega arith))
     (λ q. omega (arith, count-pos n s j (omega arith) e))
 
+-- a larger set that is another has a number that was not there, and so one more
+pub new-number : {P : Type 0} (s t : ℕ) → s < 2 ^ 64 → t < 2 ^ 64 → ((k : ℕ) → k < 64 → has k s ≡ true → has k t ≡ true) → t ≢ s
+    → ((j : ℕ) → j < 64 → has j s ≡ false → has j t ≡ true → P) → P
+new-number s t hs ht keeps ne f = byCases (anyBelow 64 (λ k. not (has k s) && has k t))
+    (λ a. any-elim 64 _ a (λ j h b.
+    let p = and-true (not (has j s)) (has j t) b in
+    f j h (not-true (has j s) (p .0)) (p .1)))
+    (λ a. absurd (ne (bits-ext 64 _ _ ht hs (λ k h. bool-ext _ _
+    (λ b. byCases (has k s) (λ q. q) (λ q. clash (any-intro 64 _ k h (rw (q, b) refl)) a))
+    (keeps k h)))))
+
+pub count-more : (s t : ℕ) → s < 2 ^ 64 → t < 2 ^ 64 → ((k : ℕ) → k < 64 → has k s ≡ true → has k t ≡ true) → t ≢ s → count 64 s < count 64 t
+count-more s t hs ht keeps ne = new-number s t hs ht keeps ne (λ j h a b. count-lt 64 s t j keeps h a b)
+
+-- a set that lacks a number does not have them all
+pub count-without : (n s j : ℕ) → j < n → has j s ≡ false → count n s < n
+unfolding count
+count-without zero s j h e = absurd (omega arith)
+count-without (suc n) s j h e = byEq j n
+    (λ q. let f : has n s ≡ false = rw q at e in rw f (omega (arith, count-high n s)))
+    (λ q. byCases (has n s) (λ b. rw b (omega (arith, count-without n s j (omega arith) e))) (λ b. rw b (omega (arith, count-high n s))))
+
 module _ (edge : ℕ → ℕ → Bool) where
   -- one round ------------------------------------------------------------------
   pub has-grow : (s y : ℕ) → y < 64 → has y (grow edge s) ≡ (has y s || anyBelow 64 (λ x. has x s && edge x y))
@@ -86,13 +108,7 @@ module _ (edge : ℕ → ℕ → Bool) where
 
   -- a round that changes something has one more
   pub grow-more : (s : ℕ) → s < 2 ^ 64 → grow edge s ≢ s → count 64 s < count 64 (grow edge s)
-  grow-more s hs ne = byCases (anyBelow 64 (λ k. not (has k s) && has k (grow edge s)))
-      (λ a. any-elim 64 _ a (λ j h b.
-      let p = and-true (not (has j s)) (has j (grow edge s)) b in
-      count-lt 64 s (grow edge s) j (grow-keeps s) h (not-true (has j s) (p .0)) (p .1)))
-      (λ a. absurd (ne (bits-ext 64 _ _ (grow-lt s) hs (λ k h. bool-ext _ _
-      (λ b. byCases (has k s) (λ q. q) (λ q. clash (any-intro 64 _ k h (rw (q, b) refl)) a))
-      (grow-keeps s k h)))))
+  grow-more s hs ne = count-more s (grow edge s) hs (grow-lt s) (grow-keeps s) ne
 
   -- all the rounds ---------------------------------------------------------------
   -- least: within whatever holds of the start and goes along the edges

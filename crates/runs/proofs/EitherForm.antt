@@ -5,9 +5,8 @@
 use mathlib.Core.Path.{_≡_, refl, sym, _∙_, ap, ap₂}
 use mathlib.Core.List.{List, [], _∷_}
 use Prim.Native.Nat.{ℕ}
-use borrow.Author.Tests.{eq-eqb, eqb-true}
+use borrow.Author.Tests.{eq-eqb}
 use Rattle.mask.proofs.Tests.{byCases}
-use Rattle.table.specs.declared.Capability.{Capability}
 use Rattle.table.specs.declared.Table.{Table}
 use Rattle.table.specs.Cells.{IsTable}
 use Rattle.table.proofs.Value.{value-is-table}
@@ -16,9 +15,8 @@ use Rattle.refusals.specs.declared.Reply.{Reply}
 use Rattle.refusals.specs.Replies.{number}
 use Rattle.refusals.specs.Refusals.{refusal}
 use Rattle.steps.specs.Steps.{after, stepOf, runTable, runReplies}
-use Rattle.bounds.specs.StandIn.{boundOf}
 use Rattle.confinement.specs.Refusals.{verdictOf, verdictNumber}
-use Rattle.confinement.specs.Tests.{isAccepted, testOf}
+use Rattle.confinement.proofs.Verdicts.{test-verdict, test-bound, test-rounds}
 use Rattle.image.proofs.Typed.{read-is-table}
 use Rattle.take_grant.proofs.Claims.{import-is-table}
 use Rattle.entries.specs.Entries.{entriesIn}
@@ -33,17 +31,6 @@ pub had-table : {t : Table} → Had t → IsTable t
 had-table {t} (owned vs is) = value-is-table t vs is
 had-table (read image b e) = rw e (read-is-table image b)
 had-table (imported bytes e) = rw e (import-is-table bytes)
-
--- an accepted test ----------------------------------------------------------------------------
-module _ (t : Table) (members : ℕ) (list : List Capability) where
-  test-verdict : verdictNumber (testOf t members list .verdict) ≡ 0 → verdictNumber (verdictOf t members list) ≡ 0
-  unfolding testOf
-  test-verdict e = byCases (isAccepted (verdictOf t members list)) (λ a. eqb-true (verdictNumber (verdictOf t members list)) 0 a)
-      (λ a. rw (a, testOf) at e)
-
-  test-bound : verdictNumber (verdictOf t members list) ≡ 0 → testOf t members list .bound ≡ boundOf t members list
-  unfolding testOf
-  test-bound e = rw (eq-eqb (verdictNumber (verdictOf t members list)) 0 e, testOf) refl
 
 -- a run of the calls is the definition's run ----------------------------------------------
 unfoldable numbersOf : List Reply → List ℕ
@@ -78,8 +65,8 @@ module _ (t u : Table) (members : ℕ) (list : List ℕ) (b : BothTested t u mem
   accepted = record {
     left = had-table (b .left);
     right = had-table (b .right);
-    accepted-left = test-verdict t members (entriesIn list) (b .accepted-left);
-    accepted-right = test-verdict u members (entriesIn list) (b .accepted-right);
+    accepted-left = sym (ap verdictNumber (test-verdict t members (entriesIn list))) ∙ b .accepted-left;
+    accepted-right = sym (ap verdictNumber (test-verdict u members (entriesIn list))) ∙ b .accepted-right;
     agree = b .agree;
   }
 
@@ -88,8 +75,11 @@ unfolding TwoRunsTaken TwoRuns
 either-form t u members list b =
     let a = accepted t u members list b in
     let s = two-runs t u members (entriesIn list) a in
+    let left = eq-eqb (verdictNumber (verdictOf t members (entriesIn list))) 0 (a .accepted-left) in
+    let right = eq-eqb (verdictNumber (verdictOf u members (entriesIn list))) 0 (a .accepted-right) in
     record {
-      bound = test-bound t members (entriesIn list) (a .accepted-left) ∙ s .bound ∙ sym (test-bound u members (entriesIn list) (a .accepted-right));
+      bound = test-bound t members (entriesIn list) left ∙ s .bound ∙ sym (test-bound u members (entriesIn list) right);
+      rounds = test-rounds t members (entriesIn list) left ∙ s .rounds ∙ sym (test-rounds u members (entriesIn list) right);
       runs = λ ps qs v w ms ns k l e.
           let x = s .runs (asksOf ps) (asksOf qs) e in
           let p = taken-run k in

@@ -71,9 +71,11 @@ pub record AlikeTaken (t u : Table) (C D : Clean) (ps qs : List (List ℕ)) (v w
   pub cells : AgreeOn (cleanAtEnd t C (asksOf ps)) v w
   pub numbers : cleanNumbers t C (asksOf ps) ms ≡ cleanNumbers u D (asksOf qs) ns
 
--- the bound that `captable_test` gave is the same, and so is all that clean objects are and are told, whatever everybody else asks
+-- the bound and the rounds that `captable_test` gave are the same, and so is all that clean objects are and are told, whatever everybody
+-- else asks
 pub record SameTaken (t u : Table) (members : ℕ) (list : List ℕ) : Type 0 where
   pub bound : found (testOf t members (entriesIn list)) .bound ≡ found (testOf u members (entriesIn list)) .bound
+  pub rounds : found (testOf t members (entriesIn list)) .rounds ≡ found (testOf u members (entriesIn list)) .rounds
   pub runs : (ps qs : List (List ℕ)) (v w : Table) (ms ns : List ℕ) → Taken t ps v ms → Taken u qs w ns
       → cleanRequests t (cleanAtStart t members (entriesIn list)) (asksOf ps) ≡ cleanRequests u (cleanAtStart u members (entriesIn list)) (asksOf qs)
       → AlikeTaken t u (cleanAtStart t members (entriesIn list)) (cleanAtStart u members (entriesIn list)) ps qs v w ms ns

@@ -118,7 +118,7 @@ fn main() {
     run(
         Part::Tests,
         b"tests",
-        b"confinement tests: case, number, bound\n",
+        b"confinement tests: case, number, rounds, bound\n",
     );
     run(
         Part::Relations,
@@ -128,7 +128,7 @@ fn main() {
     run(
         Part::Links,
         b"tests",
-        b"links of the same: case, table's links, with the list's holder, what it reaches\n",
+        b"links of the same: case, table's links, with the list's holder, rounds, what it reaches\n",
     );
     run(
         Part::Shown,

@@ -3,3 +3,4 @@ pub mod Shortest
 pub mod Layered
 pub mod Lengths
 pub mod Loops
+pub mod Rounds

@@ -11,8 +11,8 @@ extern "C" {
     fn peer_scan(table: *const raw::Table) -> u8;
 }
 
-/// The version that the comparison is for, 0.6.0: the first number times 65,536, the second times 256.
-pub const VERSION: u32 = 1536;
+/// The version that the comparison is for, 0.7.0: the first number times 65,536, the second times 256.
+pub const VERSION: u32 = 1792;
 
 /// The archive's calls, and the scan in C.
 pub trait Calls {

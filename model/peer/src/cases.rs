@@ -1,6 +1,6 @@
 //! The inputs that stack and instructions are measured on: for each call some that are done and some
-//! that are refused, on table K, on the filled table, and on long chains where reaching takes longest; tests
-//! with wk alone in many slots too, and requests with empty copies.
+//! that are refused, on table K, on the filled table, and on 64 objects in a row, where a test takes the most rounds;
+//! tests with wk alone in many slots too, and requests with empty copies.
 
 use yavrinks_model::access::potential_access;
 use yavrinks_model::chain::chain;
@@ -15,8 +15,9 @@ use yavrinks_model::wire::encode;
 use yavrinks_tools::generate::{encode_input, printed_number, ConfinementCase, ShownCase};
 
 use crate::calls::{Call, Sample};
-use crate::samples::{chain_table, farthest, imports, keeping, list_bytes, material_test, mended};
-use crate::samples::{own_test, places, requests, unsound_at_the_end, Import, Keeping, Place};
+use crate::samples::{farthest, imports, keeping, list_bytes, material_test, mended, own_test};
+use crate::samples::{places, requests, rows, unsound_at_the_end, with_slots_filled};
+use crate::samples::{Import, Keeping, Place};
 
 /// The inputs of a call.
 pub fn samples(call: Call) -> Vec<Sample> {
@@ -75,10 +76,8 @@ fn asked_of(name: String, table: Table, request: &Request) -> Sample {
 
 /// The tables of the calls that take a table alone.
 fn tables() -> Vec<(String, Table)> {
-    let mut tables = vec![
-        (String::from("chain"), chain_table(false)),
-        (String::from("chain turned about"), chain_table(true)),
-    ];
+    let rows = rows().map(|row| (row.name.to_string(), row.table));
+    let mut tables = rows.to_vec();
     for place in places() {
         let unsound = unsound_at_the_end(&place.table);
         tables.push((format!("unsound, {}", place.name), unsound));
@@ -136,24 +135,18 @@ fn tests() -> Vec<(String, ConfinementCase)> {
         add("member named", &table, set::of([1, member]), &list);
     }
     tests.push((String::from("64 wk unlisted"), material_test()));
-    tests.push((String::from("chain"), chain_test(false, 0, 1)));
-    tests.push((String::from("chain turned about"), chain_test(true, 63, 62)));
-    tests
-}
-
-/// The end of a chain that nobody names is the member, and holds rd over the next.
-fn chain_test(turned: bool, member: u8, next: u8) -> ConfinementCase {
-    ConfinementCase {
-        table: chain_table(turned),
-        members: set::single(member),
-        list: vec![(next, 1)],
+    for row in rows() {
+        let full = with_slots_filled(&row);
+        tests.push((row.name.to_string(), own_test(&row)));
+        tests.push((format!("{}, slots filled", row.name), own_test(&full)));
     }
+    tests
 }
 
 fn test((name, case): (String, ConfinementCase)) -> Sample {
     Sample {
         name,
-        number: confinement_test(&case.table, case.members, &case.list).0,
+        number: confinement_test(&case.table, case.members, &case.list).number,
         bytes: list_bytes(&case.list),
         table: case.table,
         members: case.members,
@@ -164,15 +157,15 @@ fn test((name, case): (String, ConfinementCase)) -> Sample {
 /// What is asked of a test: the chain to the object farthest off; and where the test is accepted also that
 /// to a member and to an object outside the bound, if there is one.
 fn chains((name, test): (String, ConfinementCase)) -> Vec<(String, ShownCase)> {
-    let (number, bound) = confinement_test(&test.table, test.members, &test.list);
+    let tested = confinement_test(&test.table, test.members, &test.list);
     let of = |name: String, object| {
         let test = test.clone();
         (name, ShownCase { test, object })
     };
-    if number != 0 {
+    if !tested.is_accepted() {
         return vec![of(name, 0)];
     }
-    let outside = test.table.born() & !test.members & !bound;
+    let outside = test.table.born() & !test.members & !tested.bound;
     let mut asked: Vec<_> = farthest(&test)
         .map(|n| of(name.clone(), n))
         .into_iter()

@@ -35,13 +35,30 @@ pub fn places() -> [Place; 2] {
     ]
 }
 
-/// 64 objects in a row, of which the first is the member: the chain to the last is as long as a chain can be.
-pub fn row() -> Place {
-    Place {
-        name: "64 in a row",
-        table: chain_table(false),
-        member: 0,
+/// 64 objects in a row, upwards and downwards, of which the first is the member: the chain to the last is as long as
+/// a chain can be, and the test takes as many rounds as there can be.
+pub fn rows() -> [Place; 2] {
+    [
+        Place {
+            name: "64 in a row",
+            table: row_table(|n| n.checked_add(1)),
+            member: 0,
+        },
+        Place {
+            name: "64 in a row, downwards",
+            table: row_table(|n| n.checked_sub(1)),
+            member: 63,
+        },
+    ]
+}
+
+/// The same row, held in every slot.
+pub fn with_slots_filled(row: &Place) -> Place {
+    let mut filled = row.clone();
+    for record in &mut filled.table.records {
+        record.slots = [record.slots[0]; SLOTS];
     }
+    filled
 }
 
 /// Table K of document 01 with a few more capabilities, so that each request can be done.
@@ -85,19 +102,15 @@ fn last_alive(table: &Table) -> u8 {
     alive.last().copied().unwrap_or(0)
 }
 
-/// 64 objects in a row, each with rd over the next; or, turned about, over the one before.
-pub fn chain_table(turned: bool) -> Table {
+/// 64 objects, each with rd over the next one, if there is one.
+fn row_table(next: impl Fn(u8) -> Option<u8>) -> Table {
     let mut table = Table::unborn();
-    for (n, record) in table.records.iter_mut().enumerate() {
+    for n in 0..64 {
+        let record = table.record_mut(n);
         record.status = 1;
         record.kind = 1;
-        let next = if turned {
-            n.checked_sub(1)
-        } else {
-            Some(n + 1)
-        };
-        if let Some(next) = next.filter(|&next| next < 64) {
-            record.slots[0] = Capability::new(next as u8, RD);
+        if let Some(next) = next(n).filter(|&next| next < 64) {
+            record.slots[0] = Capability::new(next, RD);
         }
     }
     table

@@ -3,7 +3,7 @@
 use std::collections::BTreeSet;
 
 use yavrinks_model::chain::chain;
-use yavrinks_model::confinement::confinement_test;
+use yavrinks_model::confinement::{confinement_test, Tested};
 use yavrinks_model::set;
 use yavrinks_model::step::step;
 use yavrinks_model::table::WK;
@@ -12,7 +12,7 @@ use yavrinks_model::wire::decode_list;
 use yavrinks_peer::calls::{answer, Call};
 use yavrinks_peer::cases::samples;
 use yavrinks_peer::samples::{farthest, held_list, imports, keeping, material_test, own_test};
-use yavrinks_peer::samples::{places, requests, row};
+use yavrinks_peer::samples::{places, requests, rows, with_slots_filled};
 use yavrinks_tools::empty_kinds::{empty_kinds, EmptyKind};
 use yavrinks_tools::generate::{CONFINEMENT_NUMBERS, IMPORT_NUMBERS, SHOWN_NUMBERS};
 
@@ -33,9 +33,9 @@ fn both_tables_have_all_ten_requests() {
 fn both_tables_have_an_accepted_test() {
     for place in places() {
         let list = decode_list(&held_list(&place.table, place.member));
-        let (number, bound) = confinement_test(&place.table, set::single(place.member), &list);
-        assert_eq!(number, 0, "{}", place.name);
-        assert_ne!(bound, 0, "{}", place.name);
+        let tested = confinement_test(&place.table, set::single(place.member), &list);
+        assert!(tested.is_accepted(), "{}", place.name);
+        assert_ne!(tested.bound, 0, "{}", place.name);
     }
 }
 
@@ -52,7 +52,31 @@ fn the_test_with_64_wk_unlisted_is_accepted_with_an_empty_bound() {
     let targets = set::of(held.iter().map(|slot| slot.target));
     assert_eq!(targets, !case.members);
     let found = confinement_test(&case.table, case.members, &case.list);
-    assert_eq!(found, (0, 0));
+    assert_eq!(found, Tested::empty(0));
+}
+
+/// 64 objects in a row take as many rounds as there can be, also with every slot filled but those of the last one.
+#[test]
+fn the_tests_of_rows_take_63_rounds() {
+    for row in rows() {
+        let filled = with_slots_filled(&row);
+        let held = filled
+            .table
+            .records
+            .iter()
+            .map(|r| r.capabilities().count());
+        assert_eq!(held.sum::<usize>(), 63 * 8, "{}", row.name);
+        for place in [row, filled] {
+            let case = own_test(&place);
+            let tested = confinement_test(&case.table, case.members, &case.list);
+            assert_eq!(
+                tested,
+                Tested::accepted(!case.members, 63),
+                "{}",
+                place.name
+            );
+        }
+    }
 }
 
 /// The send copies four empty slots, the first fetch one with rights 10 through wk and tx, the other all rights through
@@ -83,14 +107,15 @@ fn the_copies_that_are_measured_keep_every_slot() {
 /// No object has a longer chain than the one that is measured, and none below it as long a one.
 #[test]
 fn the_chain_that_is_measured_is_the_longest() {
-    for place in places().into_iter().chain([row()]) {
+    for place in places().into_iter().chain(rows()) {
         let case = own_test(&place);
         let links = |object| chain(&case.table, case.members, &case.list, object).1.len();
         let object = farthest(&case).expect("the bound is not empty");
         assert!(links(object) > 0, "{}", place.name);
         assert!((0..object).all(|other| links(other) < links(object)));
         assert!((object..64).all(|other| links(other) <= links(object)));
-        assert_eq!(links(object) == 63, place.name == row().name);
+        let in_a_row = rows().iter().any(|row| row.name == place.name);
+        assert_eq!(links(object) == 63, in_a_row);
     }
 }
 

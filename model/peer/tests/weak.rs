@@ -48,7 +48,7 @@ fn number(table: &Table, list: &[Entry]) -> u8 {
         }
     }
     match compare_test(&Archive, table, members, &list) {
-        Ok(number) => number,
+        Ok(tested) => tested.number,
         Err(difference) => panic!("{difference}"),
     }
 }

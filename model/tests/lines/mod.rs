@@ -92,12 +92,14 @@ pub fn table(value: &Json) -> Table {
     table
 }
 
-/// A line of a file of tests: what is tested, and the number and the bound that are the answer.
+/// A line of a file of tests: what is tested, and the number and the bound that are the answer; from 2.6 on the
+/// number of rounds too.
 pub struct TestLine {
     pub table: Table,
     pub members: u64,
     pub list: Vec<Entry>,
     pub answer: (u8, u64),
+    pub rounds: Option<u8>,
 }
 
 impl TestLine {
@@ -110,6 +112,7 @@ impl TestLine {
                 byte(field(value, "number")),
                 number_set(field(value, "bound")),
             ),
+            rounds: value.get("rounds").map(byte),
         }
     }
 }

@@ -15,15 +15,25 @@ pub fn shared_imports() -> Vec<Vec<u8>> {
     bytes.map(hexadecimal).collect()
 }
 
-/// A test with the number and the bound that the vectors say.
+/// A test with the number and the bound that the vectors say; from 2.6 on they say the number of rounds too.
 pub struct SharedTest {
     pub test: ConfinementCase,
     pub answer: (u8, u64),
+    pub rounds: Option<u8>,
 }
 
 /// Every test in `vectors/2.3`, in the order of the file.
 pub fn shared_tests() -> Vec<SharedTest> {
-    let lines = values(include_str!("../../vectors/2.3/tests.jsonl"));
+    tests_in(include_str!("../../vectors/2.3/tests.jsonl"))
+}
+
+/// Every test in `vectors/2.6`, in the order of the file.
+pub fn shared_rounds() -> Vec<SharedTest> {
+    tests_in(include_str!("../../vectors/2.6/rounds.jsonl"))
+}
+
+fn tests_in(text: &str) -> Vec<SharedTest> {
+    let lines = values(text);
     lines.iter().map(TestLine::of).map(shared_test).collect()
 }
 
@@ -35,6 +45,7 @@ fn shared_test(line: TestLine) -> SharedTest {
             list: line.list,
         },
         answer: line.answer,
+        rounds: line.rounds,
     }
 }
 

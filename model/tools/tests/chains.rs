@@ -115,7 +115,7 @@ fn small_case(rng: &mut Rng, most: u32) -> ShownCase {
     loop {
         let case = shown_case(rng, 0);
         let test = &case.test;
-        let (_, bound) = confinement_test(&test.table, test.members, &test.list);
+        let bound = confinement_test(&test.table, test.members, &test.list).bound;
         if bound.count_ones() <= most {
             return case;
         }
@@ -207,7 +207,7 @@ fn chains_exist_for_the_bound_and_for_nothing_else() {
             1 => shown_case(&mut rng, 19).test,
             _ => confinement_case(&mut rng, 0),
         };
-        let (_, bound) = confinement_test(&test.table, test.members, &test.list);
+        let bound = confinement_test(&test.table, test.members, &test.list).bound;
         let distances = Links::of(&test).distances();
         for object in (0..64).filter(|&n| test.table.is_born(n)) {
             let (number, chain) = shown(&test, object);

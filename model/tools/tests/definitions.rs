@@ -5,6 +5,7 @@ use std::collections::{BTreeMap, BTreeSet};
 use std::fs;
 use std::path::{Path, PathBuf};
 
+use yavrinks_model::confinement::{confinement_test, Tested};
 use yavrinks_model::step::{step, Request};
 use yavrinks_model::table::{Capability, Record, Table, WK};
 use yavrinks_tools::definitions::askers::askers;
@@ -19,8 +20,9 @@ use yavrinks_tools::definitions::wrong::wrong_cases;
 use yavrinks_tools::definitions::{summary, terms, Options};
 use yavrinks_tools::empty_kinds::{empty_kinds, EmptyKind};
 use yavrinks_tools::generate::{any_damage, any_sound_table, ConfinementCase, ShownCase};
+use yavrinks_tools::misread_rounds::{Misreading, MISREADINGS};
 use yavrinks_tools::rng::Rng;
-use yavrinks_tools::shared::{shared_imports, shared_steps, shared_tests};
+use yavrinks_tools::shared::{shared_imports, shared_rounds, shared_steps, shared_tests};
 
 /// Nothing at all, for a test that asks for something by itself.
 const NOTHING: Counts = Counts {
@@ -237,6 +239,36 @@ fn a_chain_is_stated_with_zeros_after_its_numbers() {
     }
 }
 
+/// Example 1 takes two rounds: 1 is listed, and 0 and 2 hold a capability over it. With no list it is refused.
+#[test]
+fn a_test_is_stated_with_its_bound_and_its_rounds() {
+    let refused = ConfinementCase {
+        list: vec![],
+        ..example_1()
+    };
+    for (test, answer) in [(example_1(), "0, 7, 2"), (refused, "12, 0, 0")] {
+        let text = declarations(&Case::new(Question::Test(test)), 5, "A.b");
+        let statement = format!(
+            "case-0005 : _≡_ {{A = ℕ × ℕ × ℕ}} (tested (testOf table-0005 32 list-0005)) ({answer})\n"
+        );
+        assert!(text.contains(&statement), "{text}");
+    }
+}
+
+#[test]
+fn what_is_there_is_stated_for_each_number_of_rounds() {
+    let case = Case::new(Question::There {
+        test: example_1(),
+        after: vec![0, 1, 2, 3],
+    });
+    let text = declarations(&case, 5, "A.b");
+    assert!(text.starts_with("-- case 5: there after rounds, done\n"));
+    let statement = "case-0005 : _≡_ {A = List ℕ} \
+                     (map (objectsAfter table-0005 32 list-0005) (0 ∷ 1 ∷ 2 ∷ 3 ∷ [])) \
+                     (0 ∷ 2 ∷ 7 ∷ 7 ∷ [])\n";
+    assert!(text.contains(statement), "{text}");
+}
+
 /// 5 is the stand-in, and leads to 1; 0 reads 1, which is a link either way, and 2 reads 1 and 6 weakly.
 /// 4 writes to 3.
 #[test]
@@ -423,7 +455,7 @@ fn the_default_run_asks_everything() {
         .iter()
         .map(|case| (case.question.subject(), case.answer.number()))
         .collect();
-    let expected: [(&str, &[u8]); 24] = [
+    let expected: [(&str, &[u8]); 25] = [
         ("clean along a run", &[0]),
         ("1 read", &[0, 1, 2, 3, 4, 5, 6]),
         ("2 write", &[0, 1, 2, 3, 4, 5, 6]),
@@ -439,6 +471,7 @@ fn the_default_run_asks_everything() {
         ("needed rights", &[0]),
         ("weakened rights", &[0]),
         ("confinement test", &[0, 1, 10, 11, 12, 13]),
+        ("there after rounds", &[0]),
         ("rights of a member", &[0, 12]),
         ("chain to an object", &[0, 1, 10, 11, 12, 13, 18, 19]),
         ("least chain", &[0]),
@@ -516,10 +549,14 @@ fn shared_imports_are_asked_on_demand() {
 fn shared_tests_are_asked_on_demand() {
     let counts = |tests| Counts { tests, ..NOTHING };
     let asked = cases(1, &counts(1000));
-    assert_eq!(asked.len(), 80);
-    for (case, shared) in asked.iter().zip(shared_tests()) {
-        let (number, bound) = shared.answer;
-        assert_eq!(case.answer, Answer::Bound(number, bound));
+    assert_eq!(asked.len(), 80 + 160);
+    let shared = shared_tests().into_iter().chain(shared_rounds());
+    for (case, shared) in asked.iter().zip(shared) {
+        let Answer::Tested(tested) = case.answer else {
+            panic!("{case:?}");
+        };
+        assert_eq!((tested.number, tested.bound), shared.answer);
+        assert!(shared.rounds.is_none_or(|rounds| rounds == tested.rounds));
         assert_eq!(case, &Case::new(Question::Test(shared.test)));
     }
     assert_eq!(cases(1, &counts(7)), asked[..7]);
@@ -633,10 +670,75 @@ fn wrong_answers_differ_from_the_right_ones() {
     // Of steps a wrong number, wrong content, and the ten kinds where an empty copy emptied a slot.
     let is_step = |case: &&Case| matches!(case.question, Question::Step { .. });
     assert_eq!(wrong.iter().filter(is_step).count(), 2 + 10);
-    // Of each of eight other kinds a wrong number and wrong content, of least chains wrong content.
-    let others = 2 * 8 + 1;
-    let listed = 3 + 2 * 16 + 16 + worth + 12;
+    // Of what is there in a test of three rounds, a round more at none, one and two.
+    let is_there = |case: &&Case| matches!(case.question, Question::There { .. });
+    assert_eq!(wrong.iter().filter(is_there).count(), 3);
+    // Of tests a wrong number, wrong content, and the wrong readings of how many rounds there are.
+    let is_test = |case: &&Case| matches!(case.question, Question::Test(_));
+    assert_eq!(wrong.iter().filter(is_test).count(), 2 + MISREADINGS.len());
+    // Of each of seven other kinds a wrong number and wrong content, of least chains wrong content.
+    let others = 2 * 7 + 1;
+    let listed = 3 + 2 * 16 + 16 + worth + 12 + 3 + 2 + MISREADINGS.len();
     assert_eq!(wrong.len(), Part::ALL.len() + listed + others);
+}
+
+/// In the default run each wrong reading of 2.6 has a statement, and so has a refused test with the rounds that it
+/// would have come to.
+#[test]
+fn wrong_rounds_are_among_the_wrong_answers() {
+    let cases = default_cases();
+    let wrong = wrong_cases(&mut Rng::new(1), &cases);
+    let stated = |reading: &Misreading| {
+        wrong
+            .iter()
+            .any(|case| match (&case.question, &case.answer) {
+                (Question::Test(test), Answer::Tested(tested)) => {
+                    let right = confinement_test(&test.table, test.members, &test.list);
+                    let rounds = reading.rounds(test);
+                    rounds != right.rounds && *tested == Tested { rounds, ..right }
+                }
+                _ => false,
+            })
+    };
+    for reading in &MISREADINGS {
+        assert!(stated(reading), "{}", reading.name);
+    }
+    let mut refused = wrong.iter().filter_map(|case| match case.answer {
+        Answer::Tested(tested) if !tested.is_accepted() => Some(tested.rounds),
+        _ => None,
+    });
+    assert!(refused.any(|rounds| rounds > 1));
+}
+
+/// A test in each of some layers is asked whole, the longest of 63 rounds; and what is there after some of its
+/// rounds.
+#[test]
+fn tests_of_many_rounds_are_asked() {
+    let (mut rounds, mut there) = (BTreeSet::new(), Vec::new());
+    for case in cases_of(1, 0, 1) {
+        match (&case.question, &case.answer) {
+            (Question::Test(_), Answer::Tested(tested)) => drop(rounds.insert(tested.rounds)),
+            (Question::There { after, .. }, Answer::There(sets)) => {
+                assert_eq!((after.len(), sets.len()), (5, 5));
+                assert_eq!(sets[0], 0);
+                let sizes: Vec<u32> = sets.iter().map(|set| set.count_ones()).collect();
+                there.push((after[3], sizes));
+            }
+            _ => {}
+        }
+    }
+    assert!(
+        [0, 1, 3, 4, 12, 63].iter().all(|k| rounds.contains(k)),
+        "{rounds:?}"
+    );
+    let expected = [
+        (3, vec![0, 4, 8, 12, 12]),
+        (4, vec![0, 2, 7, 10, 10]),
+        (1, vec![0, 3, 0, 3, 3]),
+        (12, vec![0, 1, 11, 12, 12]),
+        (63, vec![0, 1, 62, 63, 63]),
+    ];
+    assert_eq!(there, expected);
 }
 
 /// Statements by the rule from before 2.4: each says that some filled slot is emptied.

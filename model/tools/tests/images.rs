@@ -4,7 +4,7 @@
 use std::collections::BTreeMap;
 
 use yavrinks_model::confine::confine;
-use yavrinks_model::confinement::confinement_test;
+use yavrinks_model::confinement::{confinement_test, Tested};
 use yavrinks_model::image::{encode, read, write, IMAGE_LENGTH};
 use yavrinks_model::table::Table;
 use yavrinks_tools::generate::{
@@ -97,7 +97,8 @@ fn the_program_prints_what_the_test_returns() {
     for aim in CONFINEMENT_NUMBERS {
         for _ in 0..100 {
             let case = confinement_case(&mut rng, aim);
-            let (number, bound) = confinement_test(&case.table, case.members, &case.list);
+            let Tested { number, bound, .. } =
+                confinement_test(&case.table, case.members, &case.list);
             let text = confine(&encode_input(&case));
             let mut lines = text.lines();
             match number {

@@ -4,13 +4,14 @@
 use std::collections::BTreeMap;
 
 use yavrinks_model::access::potential_access;
-use yavrinks_model::confinement::confinement_test;
+use yavrinks_model::confinement::{confinement_test, Tested};
 use yavrinks_model::set;
 use yavrinks_model::table::{Capability, Record, Table, ALL_RIGHTS};
 use yavrinks_tools::generate::{
     any_sound_table, confinement_case, ConfinementCase, CONFINEMENT_NUMBERS,
 };
 use yavrinks_tools::rng::Rng;
+use yavrinks_tools::vectors::{test_cases, test_reach, test_rounds};
 
 const POINTS: usize = 65;
 const STAND_IN: usize = 64;
@@ -208,8 +209,9 @@ fn bounds_agree_in_three_ways() {
     let (mut empty, mut partial) = (0, 0);
     for _ in 0..400 {
         let case = confinement_case(&mut rng, 0);
-        let (number, bound) = confinement_test(&case.table, case.members, &case.list);
-        assert_eq!(number, 0);
+        let tested = confinement_test(&case.table, case.members, &case.list);
+        assert!(tested.is_accepted());
+        let bound = tested.bound;
         assert_eq!(bound, bound_by_facts(&case));
         assert_eq!(bound, bound_by_table(&case));
         let born = (0..64).filter(|&n| case.table.is_born(n) && !set::contains(case.members, n));
@@ -247,26 +249,27 @@ fn every_number_of_the_test_is_reached() {
     for aim in CONFINEMENT_NUMBERS {
         for _ in 0..300 {
             let case = confinement_case(&mut rng, aim);
-            let (number, bound) = confinement_test(&case.table, case.members, &case.list);
-            assert_eq!(number, aim, "{:?}", case);
-            assert!(number == 0 || bound == 0);
-            assert_eq!(bound & case.members, 0);
-            *counts.entry(number).or_default() += 1;
+            let tested = confinement_test(&case.table, case.members, &case.list);
+            assert_eq!(tested.number, aim, "{:?}", case);
+            assert!(tested.is_accepted() || tested == Tested::empty(aim));
+            assert_eq!(tested.bound & case.members, 0);
+            *counts.entry(tested.number).or_default() += 1;
         }
     }
     assert!(counts.len() == 6 && counts.values().all(|&count| count == 300));
 }
 
-/// The bound of an accepted test is what the holder of the list reaches by links, without the members.
+/// The bound of an accepted test is what the holder of the list reaches by links, without the members, in as many
+/// rounds.
 #[test]
 fn links_reach_the_bound() {
     let mut accepted = 0;
-    for case in yavrinks_tools::vectors::test_cases() {
-        let (number, bound) = confinement_test(&case.table, case.members, &case.list);
-        if number == 0 {
+    for case in test_cases() {
+        let tested = confinement_test(&case.table, case.members, &case.list);
+        if tested.is_accepted() {
             accepted += 1;
-            let reach = yavrinks_tools::vectors::test_reach(&case);
-            assert_eq!(bound, reach & !case.members);
+            assert_eq!(tested.bound, test_reach(&case) & !case.members);
+            assert_eq!(tested.rounds, test_rounds(&case));
         }
     }
     assert!(accepted > 100, "only {accepted} tests were accepted");

@@ -4,7 +4,7 @@
 use std::collections::BTreeSet;
 
 use yavrinks_model::access::{potential_access, Access};
-use yavrinks_model::confinement::confinement_test;
+use yavrinks_model::confinement::{confinement_test, Tested};
 use yavrinks_model::image::{encode, read, write, IMAGE_LENGTH};
 use yavrinks_model::step::{step, Request};
 use yavrinks_model::table::{Capability, Record, Table};
@@ -85,7 +85,8 @@ fn assert_refused_everywhere(table: &Table) {
     };
     assert_eq!(step(table, &request), (1, table.clone()));
     assert_eq!(potential_access(table), (1, Access::none()));
-    assert_eq!(confinement_test(table, 0, &[(0, 0); 9]), (1, 0));
+    let tested = confinement_test(table, 0, &[(0, 0); 9]);
+    assert_eq!(tested, Tested::empty(1));
     assert_eq!(read(&encode(table)), (1, Table::unborn()));
     for length in [0, IMAGE_LENGTH, IMAGE_LENGTH + 5] {
         let mut buffer = vec![0xA5; length];

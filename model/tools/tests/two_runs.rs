@@ -14,7 +14,7 @@ use yavrinks_tools::generate::{
     step_case, CONFINEMENT_NUMBERS,
 };
 use yavrinks_tools::rng::Rng;
-use yavrinks_tools::two_runs::rules::{Access, Naming, StandIn, Unlisted};
+use yavrinks_tools::two_runs::rules::{Access, Naming, Rounds, StandIn, Unlisted};
 use yavrinks_tools::two_runs::rules::{Destroyed, Empty, Makes, Rules, Weakening, BROKEN};
 use yavrinks_tools::two_runs::runs::Move;
 use yavrinks_tools::two_runs::shrink::{replay, shrink};
@@ -32,6 +32,7 @@ fn the_model_keeps_the_claim() {
     assert_eq!(trial.pairs, 600);
     assert!(trial.lengths_differ > 400 && trial.starts_differ > 400);
     assert!(trial.bound_not_empty > 300 && trial.ends_differ > 500);
+    assert!(trial.many_rounds > 50, "{}", trial.many_rounds);
     assert!(trial.made_clean > 300 && trial.tally.of_clean_by_others > 1000);
     assert!(trial.unlisted_in_one > 100 && trial.unlisted_in_both > 100);
     assert!(2 * (trial.unlisted_in_one + trial.unlisted_in_both) > trial.pairs);
@@ -92,8 +93,8 @@ fn start_tables_differ_in_members_alone() {
         }
         let first = confinement_test(&start.first, start.members, &start.list);
         let second = confinement_test(&start.second, start.members, &start.list);
-        assert!(first == second || first.0 == 12 || second.0 == 12);
-        numbers[usize::from(first.0.max(second.0))] += 1;
+        assert!(first == second || first.number == 12 || second.number == 12);
+        numbers[usize::from(first.number.max(second.number))] += 1;
     }
     // What is refused is there for some of the broken models.
     let refused = numbers[12] + numbers[13];
@@ -112,12 +113,14 @@ fn drawn_pairs_are_two_runs_of_the_claim() {
         for n in set::numbers(!start.members) {
             assert_eq!(start.first.record(n), start.second.record(n));
         }
-        let (number, bound) = confinement_test(&start.first, start.members, &start.list);
+        let tested = confinement_test(&start.first, start.members, &start.list);
         let second = confinement_test(&start.second, start.members, &start.list);
-        assert_eq!((number, second), (0, (0, bound)));
-        let clean = clean_at_start(&start.first, start.members, bound);
+        assert!(tested.is_accepted());
+        assert_eq!(second, tested);
+        let clean = clean_at_start(&start.first, start.members, tested.bound);
         assert_ne!(clean, 0);
-        assert_eq!(clean_at_start(&start.second, start.members, bound), clean);
+        let in_second = clean_at_start(&start.second, start.members, tested.bound);
+        assert_eq!(in_second, clean);
         let (first, second) = (requests(&drawn, false), requests(&drawn, true));
         let part = clean_part(&start.first, clean, &first);
         assert_eq!(clean_part(&start.second, clean, &second), part);
@@ -200,7 +203,8 @@ fn a_broken_rule_leaves_the_rest_as_it_is() {
         let test_is_whole = rules.access == Access::AsWritten
             && rules.unlisted == Unlisted::WkAlone
             && rules.naming == Naming::All
-            && rules.stand_in == StandIn::List;
+            && rules.stand_in == StandIn::List
+            && rules.rounds == Rounds::AsWritten;
         let steps_are_whole = !(1..=8).any(|code| may_change(rules, code));
         assert_ne!(test_is_whole, steps_are_whole, "{}", broken.name);
         for _ in 0..300 {

@@ -5,7 +5,7 @@ use std::collections::BTreeMap;
 use std::fs;
 
 use yavrinks_model::chain::chain as shown_chain;
-use yavrinks_model::confinement::confinement_test;
+use yavrinks_model::confinement::{confinement_test, Tested};
 use yavrinks_model::image::{read, write};
 use yavrinks_model::step::{step, step_in_place, Request};
 use yavrinks_model::table::{Capability, TX};
@@ -16,7 +16,7 @@ use yavrinks_tools::repository::root;
 use yavrinks_tools::shared::{shared_imports, shared_tests};
 use yavrinks_tools::vectors::{
     access_cases, chain, edges, image_cases, import_cases, output, parts, shown_cases, step_cases,
-    test_cases, write_cases,
+    test_cases, test_rounds, write_cases,
 };
 
 /// How often each outcome comes.
@@ -171,10 +171,11 @@ fn tests_reach_every_verdict() {
     let verdicts = cases
         .iter()
         .map(|case| confinement_test(&case.table, case.members, &case.list));
-    let verdicts: Vec<(u8, u64)> = verdicts.collect();
+    let verdicts: Vec<Tested> = verdicts.collect();
     let least = [(0, 100), (1, 40), (10, 40), (11, 40), (12, 40), (13, 40)];
-    expect(&counts(verdicts.iter().map(|verdict| verdict.0)), &least);
-    let bounds = counts(verdicts.iter().map(|verdict| verdict.1));
+    let numbers = verdicts.iter().map(|verdict| verdict.number);
+    expect(&counts(numbers), &least);
+    let bounds = counts(verdicts.iter().map(|verdict| verdict.bound));
     assert!(bounds.len() >= 40, "{} bounds", bounds.len());
     for length in 0..=10 {
         assert!(cases.iter().any(|case| case.list.len() == length));
@@ -182,6 +183,44 @@ fn tests_reach_every_verdict() {
     assert!(cases.iter().any(|case| case.list.len() == 255));
     let shared = shared_tests();
     assert!(shared.iter().all(|shared| cases.contains(&shared.test)));
+}
+
+/// The rounds of accepted tests, and of what the holder of the list reaches, of refused ones too.
+#[test]
+fn tests_take_few_rounds_and_many() {
+    let cases = test_cases();
+    let tested = cases
+        .iter()
+        .map(|case| confinement_test(&case.table, case.members, &case.list));
+    let rounds = counts(
+        tested
+            .filter(Tested::is_accepted)
+            .map(|tested| tested.rounds),
+    );
+    println!("{rounds:?}");
+    let least = [
+        (0, 20),
+        (1, 20),
+        (2, 15),
+        (3, 8),
+        (4, 12),
+        (5, 10),
+        (6, 5),
+        (7, 3),
+        (8, 4),
+        (10, 1),
+        (21, 2),
+        (32, 2),
+        (62, 2),
+        (63, 10),
+    ];
+    for (number, times) in least {
+        assert!(rounds[&number] >= times, "{number}: {rounds:?}");
+    }
+    assert_eq!(rounds.keys().last(), Some(&63));
+    let reached = counts(cases.iter().map(test_rounds));
+    println!("{reached:?}");
+    assert!(reached.keys().eq(rounds.keys()) && reached[&0] > rounds[&0]);
 }
 
 #[test]

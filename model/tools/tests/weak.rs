@@ -13,7 +13,7 @@ use yavrinks_tools::vectors::test_cases;
 
 /// The number that the test gives.
 fn number(case: &ConfinementCase) -> u8 {
-    confinement_test(&case.table, case.members, &case.list).0
+    confinement_test(&case.table, case.members, &case.list).number
 }
 
 /// What members hold over non-members.

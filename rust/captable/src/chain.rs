@@ -6,7 +6,7 @@ use core::slice::Iter;
 
 use crate::raw;
 
-/// The most links that a chain has, and so the most numbers.
+/// The most links that a chain has, so the most numbers in it and the most rounds of a test.
 pub const MAX_LINKS: usize = 63;
 
 /// A chain of links from the stand-in, which is in the place of all members, to an object of the bound:

@@ -2,9 +2,9 @@
 //!
 //! The calls are those of `libcaptable.a`, which `rt staticlib captable` proves and writes. This crate
 //! gives them types: a [`Table`] of 64 objects with eight slots each, a [`Request`] of eight kinds,
-//! potential access as a [`Relation`], the confinement test, the [`Chain`] to an object of its bound, images,
-//! and [imports](Table::import) of take-and-grant tables. A refusal is a value with the number of document 01
-//! or 02, and changes neither the table nor any buffer.
+//! potential access as a [`Relation`], the confinement test with its [`Finding`], the [`Chain`] to an object of its
+//! bound, images, and [imports](Table::import) of take-and-grant tables. A refusal is a value with the number of
+//! document 01 or 02, and changes neither the table nor any buffer.
 //!
 //! ```
 //! use captable::{Capability, Request, Set, StepRefusal, Table, ACTIVE, ALIVE, WR};
@@ -23,10 +23,11 @@
 //! assert_eq!(refusal, StepRefusal::RightAbsent);
 //! assert_eq!(refusal.number(), 6);
 //!
-//! // Whom can a subsystem {4} ever influence, if it may hold wr over 3? 3 alone.
+//! // Whom can a subsystem {4} ever influence, if it may hold wr over 3? 3 alone, in one round.
 //! let list = [Capability { target: 3, rights: WR }];
-//! let bound = table.test(Set::of(&[4]), &list).unwrap();
-//! assert_eq!(bound, Set::of(&[3]));
+//! let found = table.test(Set::of(&[4]), &list).unwrap();
+//! assert_eq!(found.bound, Set::of(&[3]));
+//! assert_eq!(found.rounds, 1);
 //!
 //! // How does it get at 3? By what is listed.
 //! assert_eq!(table.chain(Set::of(&[4]), &list, 3).unwrap().as_slice(), [3]);
@@ -133,7 +134,7 @@
 //! list, and not from what the members hold.
 //!
 //! ```
-//! use captable::{Capability, Set, Table, TestRefusal, ALIVE, RD, WK};
+//! use captable::{Capability, Finding, Set, Table, TestRefusal, ALIVE, RD, WK};
 //!
 //! // The routine 0 reads a material table, object 9, through wk alone.
 //! let mut table = Table::unborn();
@@ -141,15 +142,16 @@
 //! table.record_mut(9).status = ALIVE;
 //! let (routine, weak) = (Set::of(&[0]), Capability { target: 9, rights: WK });
 //! *table.slot_mut(0, 0) = weak;
-//! assert_eq!(table.test(routine, &[]), Ok(Set::EMPTY));
-//! assert_eq!(table.test(routine, &[weak]), Ok(Set::EMPTY));
+//! let nobody = Finding { bound: Set::EMPTY, rounds: 0 };
+//! assert_eq!(table.test(routine, &[]), Ok(nobody));
+//! assert_eq!(table.test(routine, &[weak]), Ok(nobody));
 //!
 //! // With rd beside it, both have to be listed.
 //! *table.slot_mut(0, 0) = Capability { target: 9, rights: RD | WK };
 //! let rd = Capability { target: 9, rights: RD };
 //! assert_eq!(table.test(routine, &[]), Err(TestRefusal::RightUnlisted));
 //! assert_eq!(table.test(routine, &[rd]), Err(TestRefusal::RightUnlisted));
-//! assert_eq!(table.test(routine, &[rd, weak]), Ok(Set::of(&[9])));
+//! assert_eq!(table.test(routine, &[rd, weak]), Ok(Finding { bound: Set::of(&[9]), rounds: 1 }));
 //! ```
 //!
 //! # What it links
@@ -165,6 +167,7 @@
 
 mod chain;
 mod confine;
+mod finding;
 mod pairs;
 pub mod raw;
 mod refusal;
@@ -176,6 +179,7 @@ mod table;
 
 pub use chain::{Chain, MAX_LINKS};
 pub use confine::{confine, Printed, CONFINE_BYTES};
+pub use finding::Finding;
 pub use pairs::{Pair, PairList, TooManyPairs, MAX_PAIRS};
 pub use raw::{Capability, Record};
 pub use refusal::{
@@ -221,7 +225,7 @@ pub const TX: u8 = 8;
 
 /// The version of the calls that this crate was written for: 65,536 times the first number, 256 times the
 /// second, and the third.
-pub const VERSION: u32 = 0x00_06_00;
+pub const VERSION: u32 = 0x00_07_00;
 
 /// The version of the calls that were linked. Where it is not [`VERSION`], the archive is another than the
 /// crate was written for.

@@ -87,6 +87,9 @@ pub struct Finding {
     /// The non-members that the members can ever influence, bit n for number n; empty on a refusal. Worked
     /// from the list, and not from what the members hold.
     pub bound: u64,
+    /// In how many rounds that influence spreads: how many rounds added an object. 0 for an empty bound and on a
+    /// refusal, and at most 63. See [`Finding::rounds`](crate::Finding::rounds).
+    pub rounds: u8,
     /// 0 for accepted, or why the test was refused.
     pub number: u8,
 }
@@ -125,8 +128,8 @@ extern "C" {
     pub fn captable_step_by_value(table: Table, request: *const u8, length: usize) -> Outcome;
     /// Potential access of a table.
     pub fn captable_access(table: Table) -> Relation;
-    /// The confinement test of a set of members and a list, two bytes for each entry. What a member holds with
-    /// wk alone needs no entry.
+    /// The confinement test of a set of members and a list, two bytes for each entry: the bound, and the rounds that
+    /// it took. What a member holds with wk alone needs no entry.
     ///
     /// # Safety
     /// `list` points to `length` bytes.

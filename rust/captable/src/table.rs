@@ -3,7 +3,7 @@
 use crate::raw;
 use crate::request::REQUEST_BYTES;
 use crate::{AccessRefusal, ChainRefusal, ImportRefusal, ReadRefusal};
-use crate::{Capability, Chain, Record, Relation, Request, Set};
+use crate::{Capability, Chain, Finding, Record, Relation, Request, Set};
 use crate::{StepRefusal, TestRefusal, WriteRefusal};
 use crate::{IMAGE_BYTES, MAX_ENTRIES, OBJECTS, SLOTS};
 
@@ -78,7 +78,8 @@ impl Table {
     ///
     /// // It is judged as any table: 3 gets at 0, and by the Store links at 1 and 2.
     /// let list = [Capability { target: 0, rights: WR }];
-    /// assert_eq!(table.test(Set::of(&[3]), &list), Ok(Set::of(&[0, 1, 2])));
+    /// let found = table.test(Set::of(&[3]), &list).unwrap();
+    /// assert_eq!(found.bound, Set::of(&[0, 1, 2]));
     ///
     /// assert_eq!(Table::import(&bytes[..13]), Err(ImportRefusal::ImportLengthWrong));
     /// # Ok::<(), ImportRefusal>(())
@@ -203,7 +204,8 @@ impl Table {
     }
 
     /// The confinement test: the non-members that the members can ever influence, if over non-members they
-    /// hold no more than the list has, wk alone not counted.
+    /// hold no more than the list has, wk alone not counted; and in how many [rounds](Finding::rounds) that
+    /// influence spreads.
     ///
     /// A member's capability to a non-member needs an entry, unless its rights are exactly wk: every right of
     /// it has to be listed for its target, in one entry or in several. Beside another right wk has to be
@@ -211,17 +213,34 @@ impl Table {
     /// and leaves the bound as it is. The bound is worked from the list, and not from what the members hold. See
     /// [what needs an entry](crate#what-needs-an-entry).
     ///
+    /// ```
+    /// # let mut table = captable::Table::unborn();
+    /// # for n in [1, 2, 3, 5] {
+    /// #     table.record_mut(n).status = captable::ALIVE;
+    /// # }
+    /// # *table.slot_mut(2, 0) = captable::Capability { target: 1, rights: captable::WK };
+    /// # *table.slot_mut(2, 1) = captable::Capability { target: 3, rights: captable::WK };
+    /// use captable::{Capability, Set, WR};
+    ///
+    /// // The members {5} may write to 1. 2 reads 1 and 3 weakly, so that it learns from 1, and 3 learns nothing.
+    /// let found = table.test(Set::of(&[5]), &[Capability { target: 1, rights: WR }])?;
+    /// assert_eq!(found.bound, Set::of(&[1, 2]));
+    /// // Round one adds 1, and round two adds 2.
+    /// assert_eq!(found.rounds, 2);
+    /// # Ok::<(), captable::TestRefusal>(())
+    /// ```
+    ///
     /// # Errors
     /// 1 for a table that is not sound, and 10 to 13, the first cause in number order: 12 for a right that
     /// needs an entry and is not listed, 13 for a non-member's capability that names a member, whatever its
     /// rights are.
-    pub fn test(&self, members: Set, list: &[Capability]) -> Result<Set, TestRefusal> {
+    pub fn test(&self, members: Set, list: &[Capability]) -> Result<Finding, TestRefusal> {
         let list = ListBytes::new(list);
         // SAFETY: the length is within the array.
         let finding =
             unsafe { raw::captable_test(self.0, members.bits(), list.bytes.as_ptr(), list.length) };
         TestRefusal::check(finding.number)?;
-        Ok(Set::from_bits(finding.bound))
+        Ok(Finding::new(&finding))
     }
 
     /// How an object comes to be in the bound that [`test`](Table::test) gives: a shortest chain of links
@@ -241,7 +260,7 @@ impl Table {
     ///
     /// // The members {5} may write to 1, which 2 reads weakly.
     /// let (members, list) = (Set::of(&[5]), [Capability { target: 1, rights: WR }]);
-    /// assert!(table.test(members, &list)?.contains(2));
+    /// assert!(table.test(members, &list)?.bound.contains(2));
     /// let chain = table.chain(members, &list, 2).expect("2 is in the bound");
     /// assert_eq!(chain.as_slice(), [1, 2]);
     /// assert_eq!(chain.to_string(), "1 -> 2");

@@ -3,7 +3,7 @@
 mod common;
 
 use captable::{Capability, ChainRefusal, Set, Table, ALIVE, DEAD, MAX_LINKS, RD, TX, WK, WR};
-use common::{cap, k, set};
+use common::{cap, found, k, set};
 
 /// The member of the small tables. It holds nothing.
 const MEMBER: u8 = 60;
@@ -141,11 +141,11 @@ fn the_refusals_of_the_test_come_first() {
 fn chains_are_for_the_bound() {
     let table = table_of(&[(1, 2, TX), (3, 2, WK), (3, 4, WK), (5, 4, RD), (2, 6, WR)]);
     let list = [cap(1, RD)];
-    let bound = table.test(set(&[MEMBER]), &list).expect("accepted");
-    assert_eq!(bound, set(&[1, 2, 3, 6]));
+    let answer = table.test(set(&[MEMBER]), &list).expect("accepted");
+    assert_eq!(answer, found(&[1, 2, 3, 6], 3));
     for object in 0..=255 {
         let chain = shown(&table, &list, object);
-        assert_eq!(chain.is_ok(), bound.contains(object), "{object}");
+        assert_eq!(chain.is_ok(), answer.bound.contains(object), "{object}");
     }
 }
 

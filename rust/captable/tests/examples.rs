@@ -6,15 +6,16 @@ use captable::{
     AccessRefusal, PairList, ReadRefusal, Request, Right, StepRefusal, Table, TestRefusal,
     WriteRefusal, ACTIVE, ALIVE, IMAGE_BYTES, WK, WR,
 };
-use common::{cap, k, set};
+use common::{cap, found, k, set};
 
 #[test]
 fn the_test_of_examples_1_to_5() {
-    assert_eq!(k().test(set(&[5]), &[cap(1, WR)]), Ok(set(&[0, 1, 2])));
+    let example_1 = k().test(set(&[5]), &[cap(1, WR)]);
+    assert_eq!(example_1, Ok(found(&[0, 1, 2], 2)));
     let mut weak = k();
     *weak.slot_mut(5, 0) = cap(1, WK);
-    assert_eq!(weak.test(set(&[5]), &[cap(1, WK)]), Ok(set(&[])));
-    assert_eq!(weak.test(set(&[5]), &[]), Ok(set(&[])));
+    assert_eq!(weak.test(set(&[5]), &[cap(1, WK)]), Ok(found(&[], 0)));
+    assert_eq!(weak.test(set(&[5]), &[]), Ok(found(&[], 0)));
     assert_eq!(k().test(set(&[5]), &[]), Err(TestRefusal::RightUnlisted));
     let mut held = k();
     *held.slot_mut(0, 1) = cap(5, WK);

@@ -5,7 +5,7 @@ mod common;
 
 use captable::{Capability, ImportRefusal, Record, Request, Right, Set, Table};
 use captable::{ACTIVE, ALIVE, IMPORT_BYTES, RD, TX, WR};
-use common::{cap, set};
+use common::{cap, found, set};
 
 /// Source document 001's rights, as the request adds them up.
 const READ: u8 = 1;
@@ -198,7 +198,8 @@ fn an_import_is_tested() {
         &[(1, CREATE)],
     ]);
     let list = [cap(0, WR)];
-    assert_eq!(table.test(set(&[3]), &list), Ok(set(&[0, 1, 2])));
+    let answer = table.test(set(&[3]), &list);
+    assert_eq!(answer, Ok(found(&[0, 1, 2], 3)));
     let chain = table.chain(set(&[3]), &list, 2).expect("in the bound");
     assert_eq!(chain.as_slice(), [0, 1, 2]);
 }

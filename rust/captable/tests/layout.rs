@@ -27,7 +27,8 @@ fn sizes_and_offsets() {
     assert_eq!(offset_of!(Relation, number), 2048);
     assert_eq!(size_of::<Finding>(), 16);
     assert_eq!(offset_of!(Finding, bound), 0);
-    assert_eq!(offset_of!(Finding, number), 8);
+    assert_eq!(offset_of!(Finding, rounds), 8);
+    assert_eq!(offset_of!(Finding, number), 9);
     assert_eq!(size_of::<Shown>(), 65);
     assert_eq!(offset_of!(Shown, numbers), 0);
     assert_eq!(offset_of!(Shown, count), 63);
@@ -65,6 +66,7 @@ fn the_header_asserts_the_same() {
         ("relation", size_of::<Relation>()),
         ("relation_number", offset_of!(Relation, number)),
         ("finding", size_of::<Finding>()),
+        ("finding_rounds", offset_of!(Finding, rounds)),
         ("finding_number", offset_of!(Finding, number)),
         ("shown", size_of::<Shown>()),
         ("shown_count", offset_of!(Shown, count)),

@@ -1,6 +1,6 @@
 //! The boundary itself: both forms of the step agree, no bytes at all may come with a null pointer, also
-//! where they are a list that is accepted, a chain has zeros after its numbers, an import that is refused
-//! gives the unborn table, and what `confine` prints leaves the rest of its buffer.
+//! where they are a list that is accepted, a test has rounds beside its bound, a chain has zeros after its numbers,
+//! an import that is refused gives the unborn table, and what `confine` prints leaves the rest of its buffer.
 
 mod common;
 
@@ -70,6 +70,7 @@ fn no_list_at_all_is_enough_for_wk() {
     };
     let accepted = Finding {
         bound: 0,
+        rounds: 0,
         number: 0,
     };
     assert_eq!(found, accepted);
@@ -86,6 +87,34 @@ fn example_1_is_printed() {
     let length = unsafe { captable_confine(input.as_ptr(), input.len(), &mut printed) };
     assert_eq!(&printed[..length], b"accepted\n0\n1\n2\n");
     assert!(printed[length..].iter().all(|&byte| byte == 0xaa));
+}
+
+/// The finding of the test of table K, where 5 is the member.
+fn tested(list: &[u8]) -> Finding {
+    let members = set(&[5]).bits();
+    // SAFETY: the list is the caller's own.
+    unsafe { captable_test(*k().as_raw(), members, list.as_ptr(), list.len()) }
+}
+
+/// 1 comes in round one; 0 and 2, which have a capability over it, in round two.
+#[test]
+fn a_test_has_its_rounds_beside_its_bound() {
+    let expected = Finding {
+        bound: 7,
+        rounds: 2,
+        number: 0,
+    };
+    assert_eq!(tested(&[1, WR]), expected);
+    // After accepted ones too.
+    for (list, number) in [(&[1, WR, 1][..], 11), (&[64, WR], 11), (&[6, WR], 12)] {
+        let refused = Finding {
+            bound: 0,
+            rounds: 0,
+            number,
+        };
+        assert_eq!(tested(list), refused, "{list:?}");
+        assert_eq!(tested(&[1, WR]), expected);
+    }
 }
 
 /// What is shown of an object of table K, where 5 is the member.

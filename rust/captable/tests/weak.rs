@@ -3,12 +3,12 @@
 
 mod common;
 
-use captable::{confine, Capability, ChainRefusal, Set, Table, TestRefusal};
+use captable::{confine, Capability, ChainRefusal, Finding, Set, Table, TestRefusal};
 use captable::{ALIVE, DEAD, RD, TX, WK, WR};
-use common::{cap, k, set};
+use common::{cap, found, k, set};
 
-/// What the test says: the bound, or the number that refuses it.
-fn tested(table: &Table, members: &[u8], list: &[Capability]) -> Result<Set, u8> {
+/// What the test says: the bound with its rounds, or the number that refuses it.
+fn tested(table: &Table, members: &[u8], list: &[Capability]) -> Result<Finding, u8> {
     table.test(set(members), list).map_err(TestRefusal::number)
 }
 
@@ -35,7 +35,7 @@ fn printed(table: &Table, list: &[Capability]) -> String {
 fn example_2_is_accepted_with_its_list_and_without() {
     let weak = five_holds(cap(1, WK));
     for list in [&[cap(1, WK)][..], &[]] {
-        assert_eq!(tested(&weak, &[5], list), Ok(Set::EMPTY));
+        assert_eq!(tested(&weak, &[5], list), Ok(found(&[], 0)));
         assert_eq!(printed(&weak, list), "accepted\n");
         for outside in [0, 1, 2, 3, 4, 6] {
             let chain = weak.chain(set(&[5]), list, outside);
@@ -53,7 +53,7 @@ fn of_all_rights_exactly_wk_passes_unlisted() {
         let table = five_holds(cap(1, rights));
         let chain = table.chain(set(&[5]), &[], 1);
         if rights == 4 {
-            assert_eq!(tested(&table, &[5], &[]), Ok(Set::EMPTY));
+            assert_eq!(tested(&table, &[5], &[]), Ok(found(&[], 0)));
             assert_eq!(printed(&table, &[]), "accepted\n");
             assert_eq!(chain, Err(ChainRefusal::OutsideBound));
         } else {
@@ -81,7 +81,8 @@ fn wk_beside_another_right_has_to_be_listed() {
         assert_eq!(tested(&table, &[5], &elsewhere), Err(12), "{others}");
         // In one entry or in two, in any order.
         for list in [&[held][..], &[most, cap(1, WK)], &[cap(1, WK), most]] {
-            assert_eq!(tested(&table, &[5], list), Ok(set(&[0, 1, 2])), "{others}");
+            let answer = tested(&table, &[5], list);
+            assert_eq!(answer, Ok(found(&[0, 1, 2], 2)), "{others}");
         }
     }
 }
@@ -102,14 +103,14 @@ fn materials() -> (Table, Set) {
 #[test]
 fn dozens_of_wk_pass_with_an_empty_list() {
     let (table, members) = materials();
-    assert_eq!(table.test(members, &[]), Ok(Set::EMPTY));
+    assert_eq!(table.test(members, &[]), Ok(found(&[], 0)));
     assert_eq!(
         table.chain(members, &[], 55),
         Err(ChainRefusal::OutsideBound)
     );
     // With eight of them listed too.
     let eight: Vec<Capability> = (0..8).map(|n| cap(n, WK)).collect();
-    assert_eq!(table.test(members, &eight), Ok(Set::EMPTY));
+    assert_eq!(table.test(members, &eight), Ok(found(&[], 0)));
     // The ninth entry is one too many, though none of them is needed.
     let nine: Vec<Capability> = (0..9).map(|n| cap(n, WK)).collect();
     assert_eq!(table.test(members, &nine), Err(TestRefusal::ListInvalid));
@@ -126,8 +127,8 @@ fn one_other_right_among_dozens_of_wk_is_found() {
             slot.rights = rights;
             let needed = *slot;
             assert_eq!(other.test(members, &[]), Err(TestRefusal::RightUnlisted));
-            let bound = other.test(members, &[needed]);
-            assert_eq!(bound, Ok(set(&[needed.target])));
+            let answer = other.test(members, &[needed]);
+            assert_eq!(answer, Ok(found(&[needed.target], 1)));
         }
     }
 }
@@ -137,7 +138,8 @@ fn one_other_right_among_dozens_of_wk_is_found() {
 fn wk_in_a_slot_of_its_own_needs_no_entry_beside_others() {
     let mut table = five_holds(cap(1, RD));
     *table.slot_mut(5, 1) = cap(1, WK);
-    assert_eq!(tested(&table, &[5], &[cap(1, RD)]), Ok(set(&[0, 1, 2])));
+    let answer = tested(&table, &[5], &[cap(1, RD)]);
+    assert_eq!(answer, Ok(found(&[0, 1, 2], 2)));
     assert_eq!(tested(&table, &[5], &[cap(1, WK)]), Err(12));
     assert_eq!(tested(&table, &[5], &[]), Err(12));
 }
@@ -146,7 +148,7 @@ fn wk_in_a_slot_of_its_own_needs_no_entry_beside_others() {
 /// which 5 holds wk, is not influenced, nor is 3, which 4 writes to.
 #[test]
 fn the_bound_is_the_same_with_unlisted_and_with_listed_wk() {
-    let bound = set(&[0, 1, 2]);
+    let expected = Ok(found(&[0, 1, 2], 2));
     let mut reading = k();
     for (j, target) in [(1, 6), (2, 3), (3, 1), (4, 4), (7, 0)] {
         *reading.slot_mut(5, j) = cap(target, WK);
@@ -155,7 +157,7 @@ fn the_bound_is_the_same_with_unlisted_and_with_listed_wk() {
     for table in [&k(), &reading] {
         for count in 0..=weak.len() {
             let list = [&[cap(1, WR)][..], &weak[..count]].concat();
-            assert_eq!(tested(table, &[5], &list), Ok(bound), "{list:?}");
+            assert_eq!(tested(table, &[5], &list), expected, "{list:?}");
             let chain = table.chain(set(&[5]), &list, 2).expect("in the bound");
             assert_eq!(chain.as_slice(), [1, 2]);
             for outside in [3, 4, 6] {
@@ -166,7 +168,8 @@ fn the_bound_is_the_same_with_unlisted_and_with_listed_wk() {
     }
     // Entries that nothing held asks for lead as ever: rd over 3 gets at 3, and at 4, which writes to it.
     let list = [cap(1, WR), cap(3, RD)];
-    assert_eq!(tested(&reading, &[5], &list), Ok(set(&[0, 1, 2, 3, 4])));
+    let answer = tested(&reading, &[5], &list);
+    assert_eq!(answer, Ok(found(&[0, 1, 2, 3, 4], 2)));
 }
 
 /// Row 13 stands: "a non-member holds a capability naming a member", wk alone and by a passive holder too.
@@ -193,12 +196,13 @@ fn wk_over_a_member_is_13_whoever_holds_it() {
 fn wk_over_the_dead_and_over_members_needs_no_entry() {
     let mut table = five_holds(cap(6, WK));
     table.record_mut(6).status = DEAD;
-    assert_eq!(tested(&table, &[5], &[]), Ok(Set::EMPTY));
-    assert_eq!(tested(&table, &[5], &[cap(6, WK)]), Ok(Set::EMPTY));
+    assert_eq!(tested(&table, &[5], &[]), Ok(found(&[], 0)));
+    assert_eq!(tested(&table, &[5], &[cap(6, WK)]), Ok(found(&[], 0)));
     for rights in 1..=15 {
         *table.slot_mut(5, 1) = cap(4, rights);
         // Slot 0 of 4 is (3, wr).
-        assert_eq!(tested(&table, &[4, 5], &[cap(3, WR)]), Ok(set(&[3])));
+        let answer = tested(&table, &[4, 5], &[cap(3, WR)]);
+        assert_eq!(answer, Ok(found(&[3], 1)));
         assert_eq!(tested(&table, &[4, 5], &[]), Err(12));
     }
 }

@@ -1,54 +1,31 @@
--- `bound` is the definition: the saturated words are read off at the stand-in. Assumes nothing.
+-- `bound` is the definition: what links reach from the stand-in, without the members, and the rounds that they take. Assumes nothing.
 use native.Mathlib.Omega.{arith}
-use Rattle.relation.proofs.Saturation.{full-kept}
-use Rattle.access.proofs.StartWords.{begun, entered}
-use Rattle.bounds.proofs.Words.{bound-answer}
+use Rattle.bounds.proofs.TestLinks.{code-links, bound-answer}
 use borrow.Author.Needs.{needs}
 use Rattle.bounds.proofs.bound.Statement.{statement}
 use Rattle.bounds.proofs.bound.Tie as tie
 
-cast-count : tie.Need-cast-count
-cast-count c = search needs
-
 lowest-requires : tie.Need-lowest-requires
 lowest-requires c κs = search needs
 
-cast-with : tie.Need-cast-with
-cast-with c = search needs
+cast-x : tie.Need-cast-x
+cast-x c = search needs
 
-with-requires : tie.Need-with-requires
-with-requires c κs = search needs
+test-links-requires : tie.Need-test-links-requires
+test-links-requires c κs = (c .before .pre .0, omega arith)
 
-held-words-requires : tie.Need-held-words-requires
-held-words-requires c κs = search needs
+reach-requires : tie.Need-reach-requires
+reach-requires c κs = search needs
 
-with-entries-requires : tie.Need-with-entries-requires
-with-entries-requires c κs = search needs
-
-saturate-requires : tie.Need-saturate-requires
-saturate-requires c κs = let p = begun _ _ _ _ (omega arith) (c .before .held-words .ensures) in
-    full-kept (p .full) (entered _ _ _ _ _ _ (omega arith) (omega arith) (p .full .long) (c .with-entries .ensures) .kept)
-
-cast-read-off : tie.Need-cast-read-off
-cast-read-off c = search needs
-
-read-off-requires : tie.Need-read-off-requires
-read-off-requires c κs = search needs
+less-requires : tie.Need-less-requires
+less-requires c κs = search needs
 
 returns : tie.Need-returns
-returns c = bound-answer _ _ _ _ _ _ _ _ _ _ (c .before .before .before .before .before .before .before .before .before .pre .1) (c .before .before .before .before .before .lowest .ensures) (c .before .before .before .before .before .before .before .before .before .pre .2) (c .before .before .before .before .with .ensures) (c .before .before .before .held-words .ensures) (c .before .before .with-entries .ensures) (c .before .saturate .ensures) (c .read-off .ensures)
+returns c = let low = c .before .before .before .before .before .pre .1 in
+    let x = c .before .before .before .before .lowest .ensures in
+    bound-answer _ _ _ _ _ _ _ low x (code-links _ _ _ _ _ _ low (c .before .before .before .before .before .pre .2) x (c .before .before .before .test-links .ensures)) (c .before .reach .ensures) (c .less .ensures)
 
 pub bound-spec : {M : Type 1} → statement M
 bound-spec =
     tie.close
-    (tie.spec
-    cast-count
-    lowest-requires
-    cast-with
-    with-requires
-    held-words-requires
-    with-entries-requires
-    saturate-requires
-    cast-read-off
-    read-off-requires
-    returns)
+    (tie.spec lowest-requires cast-x test-links-requires reach-requires less-requires returns)

@@ -2,7 +2,7 @@
 use mathlib.Core.Path.{sym, _∙_}
 use Prim.Native.Nat.{_-_, _≤_}
 use native.Mathlib.Omega.{arith}
-use Rattle.bounds.proofs.Words.{Seek, seek-none, seek-more, seek-found, seek-end}
+use Rattle.bounds.proofs.Holding.{Seek, seek-none, seek-more, seek-found, seek-end}
 use borrow.Author.Needs.{needs}
 use Rattle.bounds.proofs.lowest.Statement.{statement}
 use Rattle.bounds.proofs.lowest.Tie as tie

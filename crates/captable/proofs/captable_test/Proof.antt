@@ -23,7 +23,7 @@ returns : tie.Need-returns
 returns c = let a = c .before .before .before .before .args in
     let l = c .before .before .list-of in
     let t = c .before .test in
-    ap (λ (n : ℕ). record { number = n; bound = t .result .bound }) (c .of-verdict .ensures)
+    ap (λ (n : ℕ). record { number = n; bound = t .result .bound; rounds = t .result .rounds }) (c .of-verdict .ensures)
     ∙ ap found (t .ensures ∙ ap (λ (x : EntryList). testOf (a .table) (a .members) (entriesOf x)) (l .ensures) ∙ test-bytes (a .table) (a .members) (a .list .now))
 
 pub captable-test-spec : {M : Type 1} → statement M

@@ -10,7 +10,7 @@ use Rattle.chains.specs.declared.ChainReply.the-variants.{Done}
 use Rattle.chains.specs.Answers.{shown}
 use Rattle.bounds.specs.StandIn.{entriesOf}
 use Rattle.walks.specs.Chains.{leastChain}
-use Rattle.chains.specs.Links.{chainLink}
+use Rattle.confinement.specs.Links.{objectLink}
 use Rattle.chains.proofs.Words.{accepted-ok, accepted-sound, accepted-low, least-words, least-in-range}
 use Rattle.chains.proofs.Ways.{verdict-accepted, out-test, out-18, inside, out-19, out-0}
 use borrow.Author.Needs.{needs}
@@ -83,7 +83,7 @@ returns-4 c = let s = c .before .before .before .before .before .before .before 
     let k = verdict-accepted (a .t) (a .members) (entriesOf (a .list)) (a .object) _ (c .before .before .before .before .before .before .before .before .before .before .before .before .before .test .ensures) _ (c .before .before .before .before .before .before .before .before .before .before .before .before .accepted .ensures) true (not-false _ (c .before .before .before .before .before .before .before .before .before .before .before .if1 .left)) in
     let z = value-sized (a .t) _ (s .good .0) in
     let w = least-words (a .t) (a .members) (entriesOf (a .list)) (accepted-sound (a .t) (a .members) (a .list) z k) (accepted-ok (a .t) (a .members) (a .list) z k) _ (c .before .before .before .before .lowest .result) (a .object) (c .before .before .before .chain-links .ensures) in
-    out-0 (a .t) (a .members) (entriesOf (a .list)) (a .object) _ (c .before .before .before .before .before .before .before .before .before .before .before .before .before .test .ensures) _ (c .before .before .before .before .before .before .before .before .before .before .before .before .accepted .ensures) (not-false _ (c .before .before .before .before .before .before .before .before .before .before .before .if1 .left)) (value-sized (a .t) _ (c .before .before .before .before .before .before .before .before .before .before .before .before .before .before .good .0)) _ (c .before .before .before .before .before .before .before .before .before .born-outside .ensures) _ (c .before .before .before .before .before .before .before .before .has .ensures) (not-false _ (c .before .before .before .before .before .before .before .if2 .left)) _ (c .before .before .before .before .before .before .has2 .ensures) (not-false _ (c .before .before .before .before .before .if3 .left)) _ _ (ap (λ (v : Walked). shown Done v) (c .before .least .ensures)) (w ∙ ap (λ (u : ℕ). leastChain (chainLink (a .t) (a .members) (entriesOf (a .list))) u (a .object)) (c .before .before .before .before .lowest .ensures))
+    out-0 (a .t) (a .members) (entriesOf (a .list)) (a .object) _ (c .before .before .before .before .before .before .before .before .before .before .before .before .before .test .ensures) _ (c .before .before .before .before .before .before .before .before .before .before .before .before .accepted .ensures) (not-false _ (c .before .before .before .before .before .before .before .before .before .before .before .if1 .left)) (value-sized (a .t) _ (c .before .before .before .before .before .before .before .before .before .before .before .before .before .before .good .0)) _ (c .before .before .before .before .before .before .before .before .before .born-outside .ensures) _ (c .before .before .before .before .before .before .before .before .has .ensures) (not-false _ (c .before .before .before .before .before .before .before .if2 .left)) _ (c .before .before .before .before .before .before .has2 .ensures) (not-false _ (c .before .before .before .before .before .if3 .left)) _ _ (ap (λ (v : Walked). shown Done v) (c .before .least .ensures)) (w ∙ ap (λ (u : ℕ). leastChain (objectLink (a .t) (a .members) (entriesOf (a .list))) u (a .object)) (c .before .before .before .before .lowest .ensures))
 
 pub chain-spec : {M : Type 1} → statement M
 chain-spec =

@@ -1,6 +1,7 @@
 -- `test` is the definition: each way out is a law of Verdicts over what the checks found. Assumes nothing.
 use mathlib.Core.Path.{sym, _∙_}
 use borrow.Author.Tests.{not-true, not-false}
+use Rattle.table.proofs.Value.{value-sized}
 use Rattle.confinement.proofs.Scans.{list-short}
 use Rattle.confinement.proofs.Verdicts.{test-1, test-10, test-11, test-12, test-13, test-0, standing}
 use Rattle.bounds.specs.StandIn.{entriesOf}
@@ -66,8 +67,9 @@ bound-requires c κs = let a = c .before .before .before .before .before .before
     (list-short _ _ (sym (c .before .before .before .before .before .list-bad .ensures) ∙ c .before .before .before .before .if3 .left), standing (a .t) (a .members) (entriesOf (a .list)) _ (c .before .before .before .before .before .before .before .before .before .before .before .is-sound .ensures) (not-false _ (c .before .before .before .before .before .before .before .before .before .before .if1 .left)) _ (c .before .before .before .before .before .before .before .before .before .members-bad .ensures) (c .before .before .before .before .before .before .before .before .if2 .left), c .before .before .before .before .before .before .born-outside .ensures)
 
 returns-6 : tie.Need-returns-6
-returns-6 c = let a = c .before .before .before .before .before .before .before .before .before .before .before .before .before .args in
-    test-0 (a .t) (a .members) (entriesOf (a .list)) _ (c .before .before .before .before .before .before .before .before .before .before .before .before .is-sound .ensures) (not-false _ (c .before .before .before .before .before .before .before .before .before .before .before .if1 .left)) _ (c .before .before .before .before .before .before .before .before .before .before .members-bad .ensures) (c .before .before .before .before .before .before .before .before .before .if2 .left) _ (c .before .before .before .before .before .before .before .born-outside .ensures) _ (c .before .before .before .before .before .before .list-bad .ensures) (c .before .before .before .before .before .if3 .left) _ (c .before .before .before .before .right-unlisted .ensures) (c .before .before .before .if4 .left) _ (c .before .before .member-held .ensures) (c .before .if5 .left) _ (c .bound .ensures)
+returns-6 c = let s = c .before .before .before .before .before .before .before .before .before .before .before .before .before in
+    let a = s .args in
+    test-0 (a .t) (a .members) (entriesOf (a .list)) _ (c .before .before .before .before .before .before .before .before .before .before .before .before .is-sound .ensures) (not-false _ (c .before .before .before .before .before .before .before .before .before .before .before .if1 .left)) _ (c .before .before .before .before .before .before .before .before .before .before .members-bad .ensures) (c .before .before .before .before .before .before .before .before .before .if2 .left) _ (c .before .before .before .before .before .before .before .born-outside .ensures) _ (c .before .before .before .before .before .before .list-bad .ensures) (c .before .before .before .before .before .if3 .left) _ (c .before .before .before .before .right-unlisted .ensures) (c .before .before .before .if4 .left) _ (c .before .before .member-held .ensures) (value-sized (a .t) _ (s .good .0)) (c .before .if5 .left) _ (c .bound .ensures)
 
 pub test-spec : {M : Type 1} → statement M
 test-spec =

@@ -1,4 +1,4 @@
--- `reach`: the rounds that are left give what is reached, until one adds nothing or none is left. Assumes nothing.
+-- `reach`: the rounds that are left give what is reached and how many of them count, until one adds nothing or none is left. Assumes nothing.
 use Prim.Native.Nat.{_-_}
 use Rattle.links.specs.Links.{wordEdge}
 use Rattle.links.proofs.Walks.{Going, going-none, going-more, going-still, going-end}
@@ -22,11 +22,11 @@ loop-holds c = going-none _ _ _ (c .alone .ensures)
 grown-requires : tie.Need-grown-requires Inv-loop μ-loop
 grown-requires c κs = search needs
 
-returns : tie.Need-returns Inv-loop μ-loop
-returns c = going-still _ _ _ _ _ (omega arith) (c .before .grown .ensures) (c .if1 .taken) (c .before .before .before .loop .inv)
+add-one-more : tie.Need-add-one-more Inv-loop μ-loop
+add-one-more c = search needs
 
-add-k : tie.Need-add-k Inv-loop μ-loop
-add-k c = search needs
+returns : tie.Need-returns Inv-loop μ-loop
+returns c = let l = c .before .before .before .loop in going-still _ _ _ _ (l .k) (omega arith) (c .before .grown .ensures) (c .if1 .taken) (l .inv)
 
 loop-less : tie.Need-loop-less Inv-loop μ-loop
 loop-less c = search needs
@@ -46,8 +46,8 @@ reach-spec =
     alone-requires
     loop-holds
     grown-requires
+    add-one-more
     returns
-    add-k
     loop-less
     loop-again
     returns-2)

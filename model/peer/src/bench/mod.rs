@@ -10,7 +10,7 @@ use std::process::ExitCode;
 
 use yavrinks_tools::progress::Progress;
 
-use crate::samples::{imports, keeping, material_test, places, requests, row, Place};
+use crate::samples::{imports, keeping, material_test, places, requests, rows, Place};
 use measure::{Figures, ROUNDS};
 
 /// The most that a lent step should take, in scans.
@@ -24,7 +24,8 @@ destroy are undone after each call, on both sides alike. The time of the scan in
 Requests whose copies come out empty, and a fetch that is weakened to what is there, leave filled slots as
 they were.
 A chain is that to the object farthest off. With 64 wk unlisted, eight members hold wk alone in all their
-slots and the list is empty. A full import has 64 entities of eight capabilities, a small one three.
+slots and the list is empty. With 64 objects in a row the test takes 63 rounds. A full import has 64 entities
+of eight capabilities, a small one three.
 ";
 
 /// How many calls are timed.
@@ -33,9 +34,11 @@ fn calls(places: &[Place]) -> usize {
         .iter()
         .map(|place| requests(&place.table).len())
         .sum();
-    // The chain against the test, and on the row against the model too.
-    let chains = places.len() + 2;
-    3 * (each + keeping().len()) + places.len() * wholes::ALL.len() + 1 + chains + imports().len()
+    // On rows the test and the chain; the chain against the test on all of them.
+    let on_rows = 2 * rows().len();
+    let against_test = places.len() + rows().len();
+    let wholes = places.len() * wholes::ALL.len() + 1 + on_rows + imports().len();
+    3 * (each + keeping().len()) + wholes + against_test
 }
 
 /// Times everything and prints a line a call.
@@ -64,7 +67,10 @@ pub fn command() -> ExitCode {
     timing.line("confinement test, 64 wk unlisted", || {
         wholes::test_of(&material_test())
     });
-    timing.on(&row(), "chain", || wholes::chain(&row()));
+    for row in rows() {
+        timing.on(&row, "confinement test", || wholes::test(&row));
+        timing.on(&row, "chain", || wholes::chain(&row));
+    }
     for import in imports() {
         let name = format!("import {}", import.name);
         timing.line(&name, || wholes::import(&import.bytes));
@@ -89,7 +95,7 @@ fn keeping_steps(timing: &mut Timing) {
 fn archive_alone(places: &[Place], timing: &mut Timing) {
     println!("\nThe chain against the test that it begins with.\n");
     head("call", "chain ns", "test ns");
-    for place in places.iter().chain([&row()]) {
+    for place in places.iter().chain(&rows()) {
         timing.on(place, "chain", || wholes::chain_against_test(place));
     }
     println!("\nThe lent step against one soundness scan in C -O3. Goal: at most {GOAL:.2}.\n");

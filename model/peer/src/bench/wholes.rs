@@ -55,7 +55,7 @@ fn scan(place: &Place) -> Figures {
 }
 
 /// The test of the member that nobody else names, with the list of what it holds: accepted.
-fn test(place: &Place) -> Figures {
+pub fn test(place: &Place) -> Figures {
     test_of(&own_test(place))
 }
 

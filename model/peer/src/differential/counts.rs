@@ -1,7 +1,9 @@
-//! How often each call gave each number, how often empty copies were met, and the tables that are printed of it.
+//! How often each call gave each number, how often empty copies were met, how many rounds tests took, and the tables
+//! that are printed of it.
 
 use std::fmt;
 
+use super::rounds::RoundCounts;
 use yavrinks_model::step::{Code, Request};
 use yavrinks_model::table::Table;
 use yavrinks_tools::empty_kinds::{EmptyCounts, EmptyKind};
@@ -71,12 +73,13 @@ impl Line {
 const TESTS: [Line; 3] = [Line::Test, Line::Chain, Line::Confine];
 
 /// How often each line had each number: in all, and of tests those where a member holds wk alone that the
-/// list lacks. How often each kind of empty copies came.
+/// list lacks. How often each kind of empty copies came, and each number of rounds.
 #[derive(Clone, Debug, Default, PartialEq, Eq)]
 pub struct Counts {
     all: [[u64; NUMBERS]; LINES],
     unlisted: [[u64; NUMBERS]; LINES],
     empty: EmptyCounts,
+    rounds: RoundCounts,
 }
 
 impl Counts {
@@ -93,6 +96,16 @@ impl Counts {
     /// Counts the empty copies of a request that was done on the table.
     pub fn add_empty(&mut self, before: &Table, request: &Request) {
         self.empty.count(before, request);
+    }
+
+    /// Counts an accepted test by its rounds.
+    pub fn add_rounds(&mut self, rounds: u8) {
+        self.rounds.add(rounds);
+    }
+
+    /// How many accepted tests took so many rounds.
+    pub fn of_rounds(&self, rounds: u8) -> u64 {
+        self.rounds.of(rounds)
     }
 
     /// How often a request that was done was of the kind.
@@ -128,7 +141,9 @@ impl fmt::Display for Counts {
         let tests = TESTS.map(Line::place);
         let unlisted = tests.map(|place| self.unlisted[place]);
         let names = tests.map(|place| names[place].clone());
-        write_part(out, "of these with unlisted wk", &names, &unlisted)
+        write_part(out, "of these with unlisted wk", &names, &unlisted)?;
+        writeln!(out)?;
+        write!(out, "{}", self.rounds)
     }
 }
 

@@ -7,6 +7,7 @@ mod course;
 mod draw;
 mod facts;
 mod inputs;
+mod rounds;
 mod steps;
 mod sweep;
 mod unlisted;
@@ -43,7 +44,8 @@ const NOTE: &str = "\
 empty copies: of the requests that were done those in which a copy came out empty, and revokes; each is
 counted once in every line that it belongs to
 unlisted wk: a member holds wk alone over a non-member, and the list has no wk for it. Under 0 such
-tests were accepted and such chains shown, under 12 another capability was refused beside it";
+tests were accepted and such chains shown, under 12 another capability was refused beside it
+rounds: of the confinement tests that were accepted, how many rounds added an object; most is the most of any";
 
 /// A difference, and the place in the run where it was met.
 #[derive(Debug)]

@@ -5,7 +5,8 @@ use yavrinks_model::confinement::Entry;
 use yavrinks_model::table::Table;
 use yavrinks_tools::empty_kinds::EmptyKind;
 use yavrinks_tools::generate::{born_non_members, confinement_case, damaged_table};
-use yavrinks_tools::generate::{empty_copy_case, import_case, shown_case, ConfinementCase, Damage};
+use yavrinks_tools::generate::{empty_copy_case, import_case, layered_test, shown_case};
+use yavrinks_tools::generate::{ConfinementCase, Damage};
 use yavrinks_tools::generate::{CONFINEMENT_NUMBERS, IMPORT_NUMBERS, SHOWN_NUMBERS};
 use yavrinks_tools::rng::Rng;
 
@@ -51,7 +52,15 @@ pub fn sweep(
     let bits = rng.clone().bits();
     compare_imports(calls, &mut Rng::new(bits), counts)?;
     compare_weak(calls, &mut Rng::new(!bits), table, counts)?;
+    compare_layered(calls, &mut Rng::new(!bits.rotate_left(32)), counts)?;
     compare_empty(calls, &mut Rng::new(bits.rotate_left(32)), counts)
+}
+
+/// A test in layers, which takes as many rounds as it has layers.
+fn compare_layered(calls: &impl Calls, rng: &mut Rng, counts: &mut Counts) -> Compared<()> {
+    let case = layered_test(rng);
+    let list = list_bytes(&case.list);
+    one_test(calls, (&case.table, case.members, &list), counts)
 }
 
 /// A request of each kind of empty copies, on a table of its own.
@@ -92,8 +101,11 @@ fn compare_tests(
 
 fn one_test(calls: &impl Calls, test: Test, counts: &mut Counts) -> Compared<()> {
     let (table, members, list) = test;
-    let number = compare_test(calls, table, members, list)?;
-    count_test(counts, Line::Test, number, test);
+    let tested = compare_test(calls, table, members, list)?;
+    count_test(counts, Line::Test, tested.number, test);
+    if tested.is_accepted() {
+        counts.add_rounds(tested.rounds);
+    }
     Ok(())
 }
 

@@ -5,7 +5,7 @@ use captable::raw;
 use yavrinks_model::access::potential_access;
 use yavrinks_model::chain::chain;
 use yavrinks_model::confine::confine;
-use yavrinks_model::confinement::confinement_test;
+use yavrinks_model::confinement::{confinement_test, Tested};
 use yavrinks_model::image;
 use yavrinks_model::table::Table;
 use yavrinks_model::take_grant;
@@ -66,16 +66,22 @@ pub fn compare_access(calls: &impl Calls, table: &Table) -> Compared<u8> {
     Ok(number)
 }
 
-/// The confinement test of any members and any bytes of a list.
-pub fn compare_test(calls: &impl Calls, table: &Table, members: u64, list: &[u8]) -> Compared<u8> {
+/// The confinement test of any members and any bytes of a list: the bound, and the rounds that it took.
+pub fn compare_test(
+    calls: &impl Calls,
+    table: &Table,
+    members: u64,
+    list: &[u8],
+) -> Compared<Tested> {
     let given = to_raw(table);
-    let (number, bound) = confinement_test(table, members, &decode_list(list));
+    let tested = confinement_test(table, members, &decode_list(list));
     let (mut lent, mut bytes) = (given, Box::<[u8]>::from(list));
     let found = calls.test(&mut lent, members, &mut bytes);
-    let facts = |number: u8, bound: u64, table: &raw::Table, bytes: &[u8]| {
+    let facts = |tested: Tested, table: &raw::Table, bytes: &[u8]| {
         Facts::new()
-            .number("number", number)
-            .sets("bound", &[bound])
+            .number("number", tested.number)
+            .sets("bound", &[tested.bound])
+            .number("rounds", tested.rounds)
             .table("table that was given", table)
             .bytes("list", bytes)
     };
@@ -88,10 +94,19 @@ pub fn compare_test(calls: &impl Calls, table: &Table, members: u64, list: &[u8]
     same(
         "captable_test",
         case,
-        facts(number, bound, &given, list),
-        facts(found.number, found.bound, &lent, &bytes),
+        facts(tested, &given, list),
+        facts(found_by(&found), &lent, &bytes),
     )?;
-    Ok(number)
+    Ok(tested)
+}
+
+/// What the archive found, as the model has it.
+fn found_by(found: &raw::Finding) -> Tested {
+    Tested {
+        number: found.number,
+        bound: found.bound,
+        rounds: found.rounds,
+    }
 }
 
 /// The chain to any object, for any members and any bytes of a list.

@@ -19,6 +19,9 @@ const RESULT: usize = 4096;
 const NUMBER_AT: usize = 2048;
 const CHAIN_NUMBER_AT: usize = 64;
 
+/// Where the number of a test is in its second register: after the byte of the rounds.
+const TEST_NUMBER_BIT: u32 = 8;
+
 /// The bytes of stack that a call takes on the input, or none if it does not answer as the model does.
 /// Two patterns, since a call may write the very bytes of one.
 pub fn measure(call: Call, sample: &Sample) -> Option<usize> {
@@ -100,7 +103,7 @@ fn arguments(call: Call, sample: &Sample, places: &Places) -> Arguments {
 fn number(call: Call, registers: [u64; 2], result: &[u8]) -> u8 {
     match call {
         Call::Step | Call::Sound | Call::Write => registers[0] as u8,
-        Call::Test => registers[1] as u8,
+        Call::Test => (registers[1] >> TEST_NUMBER_BIT) as u8,
         Call::Stepped | Call::Access | Call::Read | Call::Import => result[NUMBER_AT],
         Call::Chain => result[CHAIN_NUMBER_AT],
         Call::Confine => {

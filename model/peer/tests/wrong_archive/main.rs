@@ -3,6 +3,7 @@
 mod done;
 mod empty;
 mod rights;
+mod rounds;
 mod weak;
 
 use captable::raw;

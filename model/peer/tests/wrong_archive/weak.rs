@@ -211,9 +211,10 @@ fn unlisted_wk_leads_to_its_target(given: &mut Given) {
         .extend(weak.iter().flat_map(|&target| [target, WR]));
 }
 
+/// Here the rounds show it sooner than the bound.
 #[test]
 fn a_bound_with_an_unlisted_wk_as_a_link_is_found() {
-    is_found(unlisted_wk_leads_to_its_target, "bound");
+    is_found(unlisted_wk_leads_to_its_target, "rounds");
 }
 
 /// Each wrong archive is wrong about what it is called after, and about nothing else: on eight members with wk

@@ -6,9 +6,10 @@ use crate::rights::{Cells, Row};
 use crate::rows::rows;
 use yavrinks_model::access::potential_access;
 use yavrinks_model::chain::chain;
-use yavrinks_model::confinement::{confinement_test, passes, Entry, MAX_ENTRIES};
+use yavrinks_model::confinement::{confinement_test, passes, Entry, Tested, MAX_ENTRIES};
 use yavrinks_model::image::{read, write};
 use yavrinks_model::refusal::Refusal;
+use yavrinks_model::rounds::rounds;
 use yavrinks_model::runs::{clean_at_start, clean_part, run, CleanPart};
 use yavrinks_model::step::{landed, step, weaken, Code, Request};
 use yavrinks_model::table::{Capability, Table};
@@ -63,6 +64,11 @@ pub enum Question {
         requests: Vec<Request>,
     },
     Test(ConfinementCase),
+    /// What is there after so many rounds of an accepted test, for some numbers of rounds.
+    There {
+        test: ConfinementCase,
+        after: Vec<usize>,
+    },
     /// Which of some capabilities pass, where a member holds them to non-members.
     Passing {
         list: Vec<Entry>,
@@ -107,7 +113,9 @@ pub enum Answer {
     Worth(Vec<Cells>),
     /// The replies of a run and its last table.
     Run(Vec<u8>, Table),
-    Bound(u8, u64),
+    Tested(Tested),
+    /// The objects that are there after each number of rounds.
+    There(Vec<u64>),
     /// For each capability, whether it passes; where one does not, this counts as refused by 12.
     Passing(Vec<bool>),
     /// The object numbers of a chain.
@@ -144,6 +152,7 @@ const NEEDS: &str = "needed rights";
 const WEAKENING: &str = "weakened rights";
 const RUN: &str = "run, last reply";
 const TEST: &str = "confinement test";
+const THERE: &str = "there after rounds";
 const PASSING: &str = "rights of a member";
 const CHAIN: &str = "chain to an object";
 const LEAST_CHAIN: &str = "least chain";
@@ -159,7 +168,7 @@ pub fn subjects() -> Vec<String> {
     let mut subjects = vec![CLEAN.to_string()];
     subjects.extend(Code::ALL.map(Code::label));
     let steps = [UNKNOWN, LANDING, WORTH, NEEDS, WEAKENING, RUN];
-    let wholes = [TEST, PASSING, CHAIN, LEAST_CHAIN, ACCESS];
+    let wholes = [TEST, THERE, PASSING, CHAIN, LEAST_CHAIN, ACCESS];
     let bytes = [READ, WRITTEN, IMPORT, REQUEST_BYTES, LIST_BYTES];
     let others = steps.into_iter().chain(wholes).chain(bytes);
     subjects.extend(others.map(String::from));
@@ -189,8 +198,13 @@ impl Question {
                 Answer::Run(replies, after)
             }
             Question::Test(case) => {
-                let (number, bound) = confinement_test(&case.table, case.members, &case.list);
-                Answer::Bound(number, bound)
+                let tested = confinement_test(&case.table, case.members, &case.list);
+                Answer::Tested(tested)
+            }
+            Question::There { test, after } => {
+                let added = rounds(&test.table, test.members, &test.list);
+                let there = after.iter().map(|&k| there_after(&added, k));
+                Answer::There(there.collect())
             }
             Question::Passing { list, held } => {
                 Answer::Passing(held.iter().map(|&one| passes(list, one)).collect())
@@ -230,6 +244,7 @@ impl Question {
             Question::Weakening { .. } => WEAKENING,
             Question::Run { .. } => RUN,
             Question::Test { .. } => TEST,
+            Question::There { .. } => THERE,
             Question::Passing { .. } => PASSING,
             Question::Chain { .. } => CHAIN,
             Question::LeastChain { .. } => LEAST_CHAIN,
@@ -249,15 +264,15 @@ impl Answer {
     pub fn number(&self) -> u8 {
         match self {
             Answer::Table(number, _)
-            | Answer::Bound(number, _)
             | Answer::Chain(number, _)
             | Answer::Rows(number, _)
             | Answer::Buffer(number, _) => *number,
+            Answer::Tested(tested) => tested.number,
             Answer::Run(replies, _) => replies.last().copied().unwrap_or(0),
             Answer::Ask(Request::Unknown { .. }) => 2,
             Answer::Entries(list) if list.len() > MAX_ENTRIES => 11,
             Answer::Passing(all) if all.contains(&false) => Refusal::RightNotListed.number(),
-            Answer::Clean(..) | Answer::Slots(_) | Answer::Worth(_) => 0,
+            Answer::Clean(..) | Answer::Slots(_) | Answer::Worth(_) | Answer::There(_) => 0,
             Answer::Ask(_) | Answer::Entries(_) | Answer::Passing(_) => 0,
         }
     }
@@ -267,8 +282,15 @@ fn table_answer((number, table): (u8, Table)) -> Answer {
     Answer::Table(number, table)
 }
 
+/// What is there after so many rounds: nothing before the first, and after the last that added an object always the
+/// same.
+fn there_after(added: &[u64], rounds: usize) -> u64 {
+    let taken = &added[..rounds.min(added.len())];
+    taken.last().copied().unwrap_or(0)
+}
+
 fn clean_answer(start: &ConfinementCase, requests: &[Request]) -> Answer {
-    let (_, bound) = confinement_test(&start.table, start.members, &start.list);
-    let clean = clean_at_start(&start.table, start.members, bound);
+    let tested = confinement_test(&start.table, start.members, &start.list);
+    let clean = clean_at_start(&start.table, start.members, tested.bound);
     Answer::Clean(clean, clean_part(&start.table, clean, requests))
 }

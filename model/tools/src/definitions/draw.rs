@@ -5,6 +5,7 @@ use super::cases::{Answer, Case, Question};
 use super::clean::clean_run;
 use super::landing::{landing, LANDINGS};
 use super::passing::{passing, PASSING_LISTS};
+use super::spreading::{spreading, SPREADINGS};
 use super::worth::{worth, WORTH_QUESTIONS};
 use crate::empty_kinds::EmptyKind;
 use crate::generate::{
@@ -13,7 +14,8 @@ use crate::generate::{
     Shape, StepCase, CONFINEMENT_NUMBERS, IMAGE_NUMBERS, IMPORT_NUMBERS, SHOWN_NUMBERS,
 };
 use crate::rng::Rng;
-use crate::shared::{shared_imports, shared_steps, shared_tests, SharedStep, SharedTest};
+use crate::shared::{shared_imports, shared_rounds, shared_steps, shared_tests};
+use crate::shared::{SharedStep, SharedTest};
 use yavrinks_model::image::IMAGE_LENGTH;
 use yavrinks_model::step::{step, step_in_place, Code, Request};
 use yavrinks_model::table::{Capability, ALL_RIGHTS, RD, TX, WK};
@@ -29,7 +31,7 @@ pub struct Counts {
     pub rounds: usize,
     /// How many of the shared imports are asked, from the first on.
     pub imports: usize,
-    /// How many of the shared tests are asked, from the first on.
+    /// How many of the shared tests are asked, from the first of 2.3 to the last of 2.6.
     pub tests: usize,
     /// How many of the shared steps are asked, from the first on.
     pub steps: usize,
@@ -50,7 +52,8 @@ impl Default for Counts {
 /// All cases of a run: the questions with the model's answers, then the shared tests and the shared steps
 /// with their own.
 pub fn cases(seed: u64, counts: &Counts) -> Vec<Case> {
-    let tests = shared_tests().into_iter().take(counts.tests);
+    let tests = shared_tests().into_iter().chain(shared_rounds());
+    let tests = tests.take(counts.tests);
     let steps = shared_steps().into_iter().take(counts.steps);
     let questions = questions(seed, counts).into_iter();
     questions
@@ -60,13 +63,14 @@ pub fn cases(seed: u64, counts: &Counts) -> Vec<Case> {
         .collect()
 }
 
-/// A shared test, with the answer that stands in its file.
+/// A shared test, with the answer that stands in its file. Where the file has no rounds, they are the model's.
 fn stated_test(shared: SharedTest) -> Case {
-    let (number, bound) = shared.answer;
-    Case {
-        question: Question::Test(shared.test),
-        answer: Answer::Bound(number, bound),
+    let mut case = Case::new(Question::Test(shared.test));
+    if let Answer::Tested(tested) = &mut case.answer {
+        (tested.number, tested.bound) = shared.answer;
+        tested.rounds = shared.rounds.unwrap_or(tested.rounds);
     }
+    case
 }
 
 /// A shared step, with the answer that stands in its file.
@@ -84,7 +88,7 @@ type Draw = fn(&mut Rng, usize) -> Question;
 /// The questions of a run. Each kind has a generator of its own, so that the number of one kind
 /// does not change the questions of another.
 pub fn questions(seed: u64, counts: &Counts) -> Vec<Question> {
-    let in_a_round: [(usize, Draw); 16] = [
+    let in_a_round: [(usize, Draw); 17] = [
         (aims().len(), aimed_step),
         (3, telling_step),
         (4, run),
@@ -101,6 +105,7 @@ pub fn questions(seed: u64, counts: &Counts) -> Vec<Question> {
         (EmptyKind::ALL.len(), empty_copy),
         (LANDINGS, landing),
         (WORTH_QUESTIONS, worth),
+        (SPREADINGS, spreading),
     ];
     let rounds = in_a_round.map(|(count, draw)| (counts.rounds * count, draw));
     let mut seeds = Rng::new(seed);

@@ -34,6 +34,7 @@ use Rattle.access.specs.declared.Access.{Access}
 use Rattle.access.specs.Answers.{accessOf, accessNumber}
 use Rattle.confinement.specs.declared.Tested.{Tested}
 use Rattle.confinement.specs.Refusals.{passes, verdictNumber}
+use Rattle.confinement.specs.Rounds.{objectsAfter}
 use Rattle.confinement.specs.Tests.{testOf}
 use Rattle.links.specs.Links.{wordEdge}
 use Rattle.walks.specs.Chains.{leastChain}
@@ -66,8 +67,8 @@ pair from to = record { from = from; to = to }
 abbrev stepped : Stepped → ℕ × Table
 stepped s = (number (s .reply), s .table)
 
-abbrev tested : Tested → ℕ × ℕ
-tested t = (verdictNumber (t .verdict), t .bound)
+abbrev tested : Tested → ℕ × ℕ × ℕ
+tested t = (verdictNumber (t .verdict), t .bound, t .rounds)
 
 abbrev shown : Shown → ℕ × ℕ × List ℕ
 shown s = (chainNumber (s .reply), s .count, s .numbers)

@@ -13,6 +13,7 @@ mod options;
 mod passing;
 pub mod scratch;
 pub mod specs;
+mod spreading;
 pub mod statements;
 pub mod summary;
 pub mod terms;

@@ -5,7 +5,7 @@ use super::cases::{Answer, Case, Part, Question};
 use super::terms;
 use crate::generate::{ConfinementCase, ShownCase};
 use crate::rights::{Cells, Column};
-use yavrinks_model::confinement::Entry;
+use yavrinks_model::confinement::{Entry, Tested};
 use yavrinks_model::links::Links;
 use yavrinks_model::runs::CleanPart;
 use yavrinks_model::set;
@@ -105,6 +105,11 @@ impl Writer<'_> {
                 format!("map number (runReplies {table} {asks}), runTable {table} {asks}")
             }
             Question::Test(case) => format!("tested (testOf {})", self.test(case)),
+            Question::There { test, after } => {
+                let test = self.test(test);
+                let after = terms::numbers(after.iter().map(|&k| k as u64));
+                format!("map (objectsAfter {test}) ({after})")
+            }
             Question::Passing { list, held } => {
                 let list = self.list(list);
                 let held = terms::capabilities(held.iter().copied());
@@ -210,7 +215,15 @@ impl Writer<'_> {
                 let table = self.table_after(question, table);
                 ("List ℕ × Table", format!("({replies}, {table})"))
             }
-            Answer::Bound(number, bound) => ("ℕ × ℕ", format!("({number}, {bound})")),
+            Answer::Tested(Tested {
+                number,
+                bound,
+                rounds,
+            }) => ("ℕ × ℕ × ℕ", format!("({number}, {bound}, {rounds})")),
+            Answer::There(sets) => {
+                let sets = terms::numbers(sets.iter().copied());
+                ("List ℕ", format!("({sets})"))
+            }
             Answer::Passing(truths) => ("List Bool", format!("({})", terms::truths(truths))),
             Answer::Chain(_, chain) if matches!(question, Question::LeastChain(_)) => {
                 ("List ℕ", format!("({})", terms::bytes(chain)))

@@ -4,9 +4,11 @@
 use super::cases::{Answer, Case, Part, Question};
 use crate::copies::landed_by;
 use crate::empty_kinds::empty_kinds;
+use crate::misread_rounds::{Misreading, MISREADINGS};
 use crate::rights::{all_cells, rows_of_model, with_altered, Column};
 use crate::rng::Rng;
 use std::mem::discriminant;
+use yavrinks_model::confinement::Tested;
 use yavrinks_model::runs::CleanPart;
 use yavrinks_model::step::{weaken, Request};
 use yavrinks_model::table::{Capability, Table, ACTIVE, ALIVE, ALL_RIGHTS, WK};
@@ -15,7 +17,8 @@ use yavrinks_model::table::{Capability, Table, ACTIVE, ALIVE, ALL_RIGHTS, WK};
 /// content, as far as the given cases have such; of clean objects, one for each part that is asked; of
 /// imports also one that is refused and yet brings something in; of capabilities that pass and of copies that
 /// land, one for each that is asked about; of what rights are worth, one for each thing that is said of the values
-/// 0 to 15; of steps also some where an empty copy empties.
+/// 0 to 15; of what is there after rounds, one round more for each that adds something; of steps also some where an
+/// empty copy empties; of tests also one for each wrong reading of how many rounds there are.
 pub fn wrong_cases(rng: &mut Rng, cases: &[Case]) -> Vec<Case> {
     let mut wrong = Vec::new();
     let mut seen = Vec::new();
@@ -27,7 +30,20 @@ pub fn wrong_cases(rng: &mut Rng, cases: &[Case]) -> Vec<Case> {
         }
     }
     wrong.extend(emptied(cases));
+    wrong.extend(MISREADINGS.iter().filter_map(|one| misread(one, cases)));
     wrong
+}
+
+/// The first test of which a wrong reading reports other rounds, with these.
+fn misread(reading: &Misreading, cases: &[Case]) -> Option<Case> {
+    cases.iter().find_map(|case| {
+        let (Question::Test(test), Answer::Tested(tested)) = (&case.question, &case.answer) else {
+            return None;
+        };
+        let rounds = reading.rounds(test);
+        let wrong = Answer::Tested(Tested { rounds, ..*tested });
+        (rounds != tested.rounds).then(|| with_answer(case, wrong))
+    })
 }
 
 /// Steps with the table that they left before 2.4, when an empty copy emptied its destination: one for each
@@ -78,6 +94,7 @@ fn made_wrong(rng: &mut Rng, case: &Case) -> Vec<Case> {
                 .collect(),
         },
         Answer::Worth(_) => wrong_worth(&case.question),
+        Answer::There(sets) => one_round_more(&case.question, sets),
         answer if answer.number() == 0 => vec![with_answer(case, other_content(rng, answer))],
         answer => {
             let mut wrong = vec![with_answer(case, other_number(answer))];
@@ -87,6 +104,29 @@ fn made_wrong(rng: &mut Rng, case: &Case) -> Vec<Case> {
             wrong
         }
     }
+}
+
+/// What is there a round later, in the place of one of the sets, where the model says that it is more.
+fn one_round_more(question: &Question, sets: &[u64]) -> Vec<Case> {
+    let Question::There { test, after } = question else {
+        return Vec::new();
+    };
+    let right = Case::new(question.clone());
+    let later = Case::new(Question::There {
+        test: test.clone(),
+        after: after.iter().map(|k| k + 1).collect(),
+    });
+    let Answer::There(later) = later.answer else {
+        return Vec::new();
+    };
+    let places = (0..sets.len()).filter(|&place| later[place] != sets[place]);
+    places
+        .map(|place| {
+            let mut sets = sets.to_vec();
+            sets[place] = later[place];
+            with_answer(&right, Answer::There(sets))
+        })
+        .collect()
 }
 
 /// One of the answers the other way round.
@@ -164,10 +204,10 @@ fn other_number(answer: &Answer) -> Answer {
     let mut answer = answer.clone();
     match &mut answer {
         Answer::Table(number, _)
-        | Answer::Bound(number, _)
         | Answer::Chain(number, _)
         | Answer::Rows(number, _)
         | Answer::Buffer(number, _) => *number = other,
+        Answer::Tested(tested) => tested.number = other,
         Answer::Run(replies, _) => {
             if let Some(reply) = replies.last_mut() {
                 *reply = other;
@@ -176,6 +216,7 @@ fn other_number(answer: &Answer) -> Answer {
         Answer::Ask(request) => *request = Request::Read { actor: 0, t: 0 },
         Answer::Entries(list) => list.push((0, 0)),
         Answer::Passing(truths) => truths.push(true),
+        Answer::There(sets) => sets.push(0),
         Answer::Slots(slots) => slots.push(Capability::EMPTY),
         Answer::Worth(rows) => rows.push([false; 4]),
         Answer::Clean(start, _) => *start ^= 1,
@@ -187,7 +228,7 @@ fn other_content(rng: &mut Rng, answer: &Answer) -> Answer {
     let mut answer = answer.clone();
     match &mut answer {
         Answer::Table(_, table) | Answer::Run(_, table) => change_table(rng, table),
-        Answer::Bound(_, bound) => *bound ^= 1 << rng.between(0, 63),
+        Answer::Tested(tested) => tested.bound ^= 1 << rng.between(0, 63),
         Answer::Chain(_, chain) => {
             let place = rng.between(0, chain.len() as u64 - 1) as usize;
             chain[place] ^= rng.byte(1, 63);
@@ -206,6 +247,7 @@ fn other_content(rng: &mut Rng, answer: &Answer) -> Answer {
         }
         Answer::Entries(list) => list.push((0, 0)),
         Answer::Passing(truths) => truths.push(true),
+        Answer::There(sets) => sets.push(0),
         Answer::Slots(slots) => slots.push(Capability::EMPTY),
         Answer::Worth(rows) => rows.push([false; 4]),
         Answer::Clean(start, _) => *start ^= 1,

@@ -24,7 +24,7 @@ pub use imports::{full_import, import_bytes, import_case, IMPORT_NUMBERS};
 pub use requests::{
     actor_mut, any_request, bounded_fields, can_meet, likely_request, step_case, StepCase,
 };
-pub use shown::{layered_case, shown_case, ShownCase, SHOWN_NUMBERS};
+pub use shown::{layered_case, layered_test, shown_case, ShownCase, SHOWN_NUMBERS};
 pub use tables::{
     any_damage, any_sound_table, damage, damaged_table, numbers_where, sound_table, Damage, Shape,
 };

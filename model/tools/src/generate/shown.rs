@@ -6,7 +6,7 @@ use super::tables::{any_word, numbers_where};
 use crate::rng::Rng;
 use yavrinks_model::confinement::{confinement_test, Entry, MAX_ENTRIES};
 use yavrinks_model::set;
-use yavrinks_model::table::{Capability, Record, Table, SLOTS};
+use yavrinks_model::table::{Capability, Record, Table, OBJECTS, SLOTS};
 use yavrinks_model::table::{ALIVE, ALL_RIGHTS, DEAD, RD, TX, WK, WR};
 
 /// A test and the object whose chain is asked for.
@@ -67,8 +67,8 @@ fn accepted_case(rng: &mut Rng) -> Option<ShownCase> {
 }
 
 fn bound_of(test: &ConfinementCase) -> Vec<u8> {
-    let (_, bound) = confinement_test(&test.table, test.members, &test.list);
-    set::numbers(bound).collect()
+    let tested = confinement_test(&test.table, test.members, &test.list);
+    set::numbers(tested.bound).collect()
 }
 
 /// A number above 63, an unborn one or a member. Some of those above 63 are a born non-member in their
@@ -100,6 +100,15 @@ fn random_widths(rng: &mut Rng) -> Vec<usize> {
     (0..depth)
         .map(|_| rng.between(narrowest, widest) as usize)
         .collect()
+}
+
+/// An accepted test in layers. Every eighth takes as many rounds as there can be.
+pub fn layered_test(rng: &mut Rng) -> ConfinementCase {
+    let widths = match rng.between(0, 7) {
+        0 => vec![1; OBJECTS - 1],
+        _ => random_widths(rng),
+    };
+    layered_case(rng, &widths).test
 }
 
 /// An accepted test in layers, with an object of the last layer. The stand-in leads to all objects of

@@ -1,10 +1,13 @@
-//! The confinement test under given rules. The checks before 12 are the model's; 12, 13 and the bound are
-//! worked here, since the broken rules are about them.
+//! The confinement test under given rules. The checks before 12 are the model's; 12, 13, the bound and the rounds
+//! are worked here, since the broken rules are about them.
 
-use super::rules::{Access, Naming, Rules, StandIn, Unlisted};
+use super::rules::{Access, Naming, Rounds, Rules, StandIn, Unlisted};
+use crate::generate::ConfinementCase;
+use crate::misread_rounds::through_members;
 use yavrinks_model::access::Relation;
-use yavrinks_model::confinement::{self, Entry};
+use yavrinks_model::confinement::{self, Entry, Tested};
 use yavrinks_model::refusal::Refusal;
+use yavrinks_model::rounds::rounds;
 use yavrinks_model::set;
 use yavrinks_model::table::{Capability, Record, Table};
 use yavrinks_model::table::{ALL_RIGHTS, OBJECTS, RD, TX, WK, WR};
@@ -15,16 +18,19 @@ const STAND_IN: usize = OBJECTS;
 const POINTS: usize = OBJECTS + 1;
 
 impl Rules {
-    /// The test: 0 and the bound, or the refusal number and an empty bound.
-    pub fn confinement_test(&self, table: &Table, members: u64, list: &[Entry]) -> (u8, u64) {
+    /// The test.
+    pub fn confinement_test(&self, table: &Table, members: u64, list: &[Entry]) -> Tested {
         let unlisted = Refusal::RightNotListed.number();
         let named = Refusal::MemberNamedOutside.number();
         // Check 12 and check 13 are the last ones, so that any other number stands.
-        match confinement::confinement_test(table, members, list).0 {
-            number if ![0, unlisted, named].contains(&number) => (number, 0),
-            _ if !self.members_pass(table, members, list) => (unlisted, 0),
-            _ if self.member_is_named(table, members) => (named, 0),
-            _ => (0, self.bound(table, members, list)),
+        match confinement::confinement_test(table, members, list).number {
+            number if ![0, unlisted, named].contains(&number) => Tested::empty(number),
+            _ if !self.members_pass(table, members, list) => Tested::empty(unlisted),
+            _ if self.member_is_named(table, members) => Tested::empty(named),
+            _ => Tested::accepted(
+                self.bound(table, members, list),
+                self.rounds(table, members, list),
+            ),
         }
     }
 
@@ -66,6 +72,19 @@ impl Rules {
         self.saturate(&mut relation, &over_itself);
         let influenced = relation.influenced_points(STAND_IN);
         set::of(set::numbers(!members).filter(|&n| influenced[usize::from(n)]))
+    }
+
+    /// The rounds of a test that is accepted, by the model's own count unless they go through members.
+    fn rounds(&self, table: &Table, members: u64, list: &[Entry]) -> u8 {
+        let list = self.held_by_stand_in(table, members, list);
+        match self.rounds {
+            Rounds::AsWritten => rounds(table, members, &list).len() as u8,
+            Rounds::ThroughMembers => through_members(&ConfinementCase {
+                table: table.clone(),
+                members,
+                list,
+            }),
+        }
     }
 
     /// The rights that non-members and the stand-in hold in slots or by the list.

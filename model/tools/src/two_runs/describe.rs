@@ -4,6 +4,7 @@ use super::rules::Rules;
 use super::runs::{Difference, Move, Start};
 use super::trial::Case;
 use crate::rights::right_names;
+use yavrinks_model::confinement::Tested;
 use yavrinks_model::set;
 use yavrinks_model::step::{Pair, Request};
 use yavrinks_model::table::{Capability, Record, Table, DEAD, OBJECTS};
@@ -38,9 +39,9 @@ pub fn case_text(rules: &Rules, case: &Case) -> String {
 
 fn difference_text(difference: &Difference, tables: &[Table; 2]) -> String {
     match difference {
-        Difference::Bounds(first, second) => {
-            let (first, second) = (set_text(*first), set_text(*second));
-            format!("  the bounds differ: {first} and {second}\n")
+        Difference::Tests(first, second) => {
+            let (first, second) = (tested_text(first), tested_text(second));
+            format!("  the tests differ: {first} and {second}\n")
         }
         Difference::Replies(first, second) => {
             format!("  the replies to a clean request differ: {first} and {second}\n")
@@ -65,12 +66,12 @@ fn start_text(rules: &Rules, start: &Start) -> String {
         .iter()
         .map(|&(target, rights)| capability_text(Capability::new(target, rights)))
         .collect();
-    let (_, bound) = rules.confinement_test(&start.first, start.members, &start.list);
+    let tested = rules.confinement_test(&start.first, start.members, &start.list);
     let mut text = format!(
-        "  members {}, list [{}], bound {}\n",
+        "  members {}, list [{}], {}\n",
         set_text(start.members),
         entries.join(" "),
-        set_text(bound)
+        tested_text(&tested)
     );
     for n in 0..OBJECTS as u8 {
         let (first, second) = (start.first.record(n), start.second.record(n));
@@ -86,6 +87,15 @@ fn start_text(rules: &Rules, start: &Start) -> String {
         }
     }
     text
+}
+
+/// What an accepted test found.
+fn tested_text(tested: &Tested) -> String {
+    format!(
+        "bound {} in rounds {}",
+        set_text(tested.bound),
+        tested.rounds
+    )
 }
 
 fn record_text(record: &Record) -> String {

@@ -13,6 +13,7 @@ pub fn trial_text(trial: &Trial) -> String {
         ("pairs of runs", trial.pairs),
         ("  with different start tables", trial.starts_differ),
         ("  with a bound that is not empty", trial.bound_not_empty),
+        ("  with a bound of three rounds or more", trial.many_rounds),
         ("  with lists of different length", trial.lengths_differ),
         ("  with different tables at the end", trial.ends_differ),
         ("  with unlisted wk in one table", trial.unlisted_in_one),
@@ -33,7 +34,7 @@ pub fn trial_text(trial: &Trial) -> String {
         ("  of a clean object's slot", others.of_clean),
     ];
     for (name, count) in rows {
-        text.push_str(&format!("{name:<36}{count:>12}\n"));
+        text.push_str(&format!("{name:<38}{count:>10}\n"));
     }
     let differences = u64::from(trial.found.is_some());
     text.push_str(&format!("\n{differences} differences\n"));

@@ -92,6 +92,15 @@ pub enum StandIn {
     Slots,
 }
 
+/// Which links the test counts rounds along.
+#[derive(Clone, Copy, Debug, PartialEq, Eq)]
+pub enum Rounds {
+    /// As in 2.6: those of what non-members and the stand-in hold.
+    AsWritten,
+    /// Also those of what the members hold.
+    ThroughMembers,
+}
+
 /// All rules that can be broken.
 #[derive(Clone, Copy, Debug, PartialEq, Eq)]
 pub struct Rules {
@@ -103,6 +112,7 @@ pub struct Rules {
     pub unlisted: Unlisted,
     pub naming: Naming,
     pub stand_in: StandIn,
+    pub rounds: Rounds,
 }
 
 impl Rules {
@@ -116,6 +126,7 @@ impl Rules {
         unlisted: Unlisted::WkAlone,
         naming: Naming::All,
         stand_in: StandIn::List,
+        rounds: Rounds::AsWritten,
     };
 }
 
@@ -130,7 +141,7 @@ pub struct Broken {
 }
 
 /// The broken models. Each of them must be caught.
-pub const BROKEN: [Broken; 17] = [
+pub const BROKEN: [Broken; 18] = [
     Broken {
         name: "fetch-not-weakened",
         says: "a fetch through wk copies all rights",
@@ -217,6 +228,14 @@ pub const BROKEN: [Broken; 17] = [
         says: "the bound goes by what the members hold, not by the list",
         rules: Rules {
             stand_in: StandIn::Slots,
+            ..Rules::DOCUMENT
+        },
+    },
+    Broken {
+        name: "rounds-through-members",
+        says: "rounds go along what members hold too",
+        rules: Rules {
+            rounds: Rounds::ThroughMembers,
             ..Rules::DOCUMENT
         },
     },

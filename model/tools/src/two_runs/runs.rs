@@ -4,7 +4,7 @@
 use super::rules::Rules;
 use super::tally::{Actor, Tally};
 use crate::generate::unlisted_wk;
-use yavrinks_model::confinement::Entry;
+use yavrinks_model::confinement::{Entry, Tested};
 use yavrinks_model::runs::{clean_after, clean_at_start, is_from_clean};
 use yavrinks_model::set;
 use yavrinks_model::step::Request;
@@ -30,8 +30,8 @@ pub enum Move {
 /// How two runs can break the claim.
 #[derive(Clone, Debug, PartialEq, Eq)]
 pub enum Difference {
-    /// The bounds of the two start tables.
-    Bounds(u64, u64),
+    /// What the test found for the two start tables: the bound and the rounds.
+    Tests(Tested, Tested),
     /// The replies to the clean request that came last.
     Replies(u8, u8),
     /// The clean objects.
@@ -40,12 +40,12 @@ pub enum Difference {
     Object(u8),
 }
 
-/// One of the two runs, as far as it has gone. Members and bound are those of the start.
+/// One of the two runs, as far as it has gone. Members and what the test found are those of the start.
 #[derive(Clone, Debug)]
 pub struct Run {
     pub table: Table,
     members: u64,
-    bound: u64,
+    tested: Tested,
     /// What members held at the start over non-members with wk alone and unlisted: (member, target).
     unlisted_wk: Vec<(u8, u8)>,
     /// The objects that are clean by now.
@@ -58,13 +58,13 @@ pub struct Run {
 impl Run {
     /// The run before its first request. None if the test refuses.
     pub fn begin(rules: &Rules, table: &Table, members: u64, list: &[Entry]) -> Option<Run> {
-        let (number, bound) = rules.confinement_test(table, members, list);
-        (number == 0).then(|| Run {
+        let tested = rules.confinement_test(table, members, list);
+        tested.is_accepted().then(|| Run {
             table: table.clone(),
             members,
-            bound,
+            tested,
             unlisted_wk: unlisted_wk(table, members, list),
-            clean: clean_at_start(table, members, bound),
+            clean: clean_at_start(table, members, tested.bound),
             length: 0,
             tally: Tally::default(),
         })
@@ -119,7 +119,7 @@ impl Run {
             Actor::Clean
         } else if set::contains(self.members, n) {
             Actor::Member
-        } else if set::contains(self.bound, n) {
+        } else if set::contains(self.tested.bound, n) {
             Actor::Bound
         } else if self.table.is_born(n) {
             Actor::MadeByOthers
@@ -141,8 +141,8 @@ impl Run {
 #[derive(Clone, Debug)]
 pub struct TwoRuns {
     rules: Rules,
-    /// The bound of both start tables.
-    pub bound: u64,
+    /// What the test found for both start tables.
+    pub tested: Tested,
     pub first: Run,
     pub second: Run,
 }
@@ -152,12 +152,12 @@ impl TwoRuns {
     pub fn begin(rules: &Rules, start: &Start) -> Option<Result<TwoRuns, Difference>> {
         let begin = |table| Run::begin(rules, table, start.members, &start.list);
         let (first, second) = (begin(&start.first)?, begin(&start.second)?);
-        if first.bound != second.bound {
-            return Some(Err(Difference::Bounds(first.bound, second.bound)));
+        if first.tested != second.tested {
+            return Some(Err(Difference::Tests(first.tested, second.tested)));
         }
         let runs = TwoRuns {
             rules: *rules,
-            bound: first.bound,
+            tested: first.tested,
             first,
             second,
         };

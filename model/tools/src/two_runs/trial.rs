@@ -25,6 +25,8 @@ pub struct Trial {
     pub pairs: u64,
     pub starts_differ: u64,
     pub bound_not_empty: u64,
+    /// Pairs whose bound takes three rounds at least.
+    pub many_rounds: u64,
     pub lengths_differ: u64,
     /// Pairs whose tables differ at the end, in objects that are not clean.
     pub ends_differ: u64,
@@ -63,7 +65,8 @@ impl Trial {
         let Some(runs) = &drawn.runs else {
             return;
         };
-        self.bound_not_empty += u64::from(runs.bound != 0);
+        self.bound_not_empty += u64::from(runs.tested.bound != 0);
+        self.many_rounds += u64::from(runs.tested.rounds >= 3);
         self.lengths_differ += u64::from(runs.first.length != runs.second.length);
         self.ends_differ += u64::from(runs.first.table != runs.second.table);
         self.count_unlisted(runs);
@@ -98,7 +101,7 @@ impl Trial {
 pub struct Drawn {
     pub start: Start,
     pub moves: Vec<Move>,
-    /// The runs after the last move; none if even the bounds differ.
+    /// The runs after the last move; none if even the tests differ.
     pub runs: Option<TwoRuns>,
     pub difference: Option<Difference>,
 }

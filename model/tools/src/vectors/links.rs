@@ -1,5 +1,6 @@
 //! Links on the cases of the confinement tests: those of the table, those between the born
-//! non-members with a holder of the list at the lowest member's number, and what that holder reaches.
+//! non-members with a holder of the list at the lowest member's number, and what that holder reaches in how many
+//! rounds.
 
 use super::{digest, verdicts, Part};
 use crate::generate::ConfinementCase;
@@ -34,13 +35,19 @@ pub fn test_reach(case: &ConfinementCase) -> u64 {
     test_links(case).reached(holder(case))
 }
 
+/// How many rounds from the holder of the list add a number.
+pub fn test_rounds(case: &ConfinementCase) -> u8 {
+    test_links(case).rounds(holder(case))
+}
+
 /// The file of the tests once more, for their links.
 pub fn part() -> Part {
-    let heading = "links of the same: case, table's links, with the list's holder, what it reaches";
+    let heading =
+        "links of the same: case, table's links, with the list's holder, rounds, what it reaches";
     verdicts::under(heading, |case| {
         let whole = digest::text(digest::of_links(&Links::of_table(&case.table)));
         let held = digest::text(digest::of_links(&test_links(case)));
-        let reach = test_reach(case);
-        format!("{whole} {held} {reach:016x}")
+        let (rounds, reach) = (test_rounds(case), test_reach(case));
+        format!("{whole} {held} {rounds} {reach:016x}")
     })
 }

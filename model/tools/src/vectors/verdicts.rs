@@ -1,11 +1,12 @@
-//! Confinement tests: the shared test vectors, every verdict many times, lists of all lengths, and what
-//! members hold with wk, alone and among other rights.
+//! Confinement tests: the shared test vectors, every verdict many times, lists of all lengths, what
+//! members hold with wk, alone and among other rights, and tests of many rounds.
 
+use super::rounds::rounds_cases;
 use super::{layout, Part};
 use crate::generate::{any_damage, confinement_case, ConfinementCase};
 use crate::rng::Rng;
 use crate::shared::shared_tests;
-use yavrinks_model::confinement::{confinement_test, Entry};
+use yavrinks_model::confinement::{confinement_test, Entry, Tested};
 use yavrinks_model::set;
 use yavrinks_model::table::{Capability, Record, Table};
 use yavrinks_model::table::{
@@ -16,10 +17,10 @@ use yavrinks_model::table::{
 const LONG: [usize; 6] = [9, 10, 16, 100, 254, 255];
 
 /// How often each verdict is aimed at. Cases made by hand and shared ones add to all of them.
-const AIMS: [(u8, usize); 6] = [(0, 60), (1, 36), (10, 22), (11, 18), (12, 24), (13, 22)];
+const AIMS: [(u8, usize); 6] = [(0, 26), (1, 33), (10, 17), (11, 6), (12, 24), (13, 15)];
 
-/// Every verdict, the shared tests, lists of all lengths, the first and the last of numbers and slots, then
-/// wk in what members hold.
+/// Every verdict, the shared tests, lists of all lengths, the first and the last of numbers and slots, wk in
+/// what members hold, then tests of many rounds.
 pub fn test_cases() -> Vec<ConfinementCase> {
     let mut rng = Rng::new(0x7E575);
     let mut cases = vec![ConfinementCase {
@@ -43,9 +44,10 @@ pub fn test_cases() -> Vec<ConfinementCase> {
     cases.extend(all_rights_unlisted());
     cases.extend(only_wk_unlisted());
     cases.extend(wk_beside_entries());
-    cases.extend([1, 3, 7].map(dozens_of_wk));
+    cases.extend([1, 2, 3, 7].map(dozens_of_wk));
     cases.extend(dozens_with_an_offence());
     cases.extend([ACTIVE, PASSIVE].map(wk_over_a_member));
+    cases.extend(rounds_cases());
     cases
 }
 
@@ -234,9 +236,14 @@ fn wk_over_a_member(kind: u8) -> ConfinementCase {
 }
 
 pub fn part() -> Part {
-    under("confinement tests: case, number, bound", |case| {
-        let (number, bound) = confinement_test(&case.table, case.members, &case.list);
-        format!("{number} {bound:016x}")
+    under("confinement tests: case, number, rounds, bound", |case| {
+        let tested = confinement_test(&case.table, case.members, &case.list);
+        let Tested {
+            number,
+            bound,
+            rounds,
+        } = tested;
+        format!("{number} {rounds} {bound:016x}")
     })
 }
 

@@ -1,8 +1,8 @@
-//! Table K of document 01, and a step in both of its forms.
+//! Table K of document 01, what a test finds, and a step in both of its forms.
 #![allow(dead_code)] // each test is a program of its own and uses some of this
 
 use captable::raw::{captable_step, captable_step_by_value};
-use captable::{Capability, Set, Table, ACTIVE, ALIVE, RD, WK, WR};
+use captable::{Capability, Finding, Set, Table, ACTIVE, ALIVE, RD, WK, WR};
 
 /// The set of some numbers.
 pub fn set(numbers: &[u8]) -> Set {
@@ -12,6 +12,14 @@ pub fn set(numbers: &[u8]) -> Set {
 /// An entry or a slot's content.
 pub fn cap(target: u8, rights: u8) -> Capability {
     Capability { target, rights }
+}
+
+/// What an accepted test finds: the bound, and the rounds that it took.
+pub fn found(bound: &[u8], rounds: u8) -> Finding {
+    Finding {
+        bound: set(bound),
+        rounds,
+    }
 }
 
 /// "K: alive 0 to 6; active 0, 2, 4, 5. Slot 0 of 0 is (1, rd), of 2 (1, wk), of 4 (3, wr), of 5 (1, wr);

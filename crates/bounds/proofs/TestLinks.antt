@@ -1,26 +1,31 @@
 -- The links of the confinement test as the code of `links` gives them: the slots between born non-members, joined with the entries of
 -- the list, which the stand-in holds, are the test's holding, link by link. For every table, sound or not, and every set of members
 -- that has one. Assumes nothing.
-use mathlib.Core.Path.{_≡_, refl, _∙_, ap₂, subst⁻¹}
+use mathlib.Core.Path.{_≡_, refl, _∙_, ap, ap₂, subst⁻¹}
 use mathlib.Core.Bool.{Bool, true, false, _&&_, _||_}
+use mathlib.Core.List.{List}
 use Prim.Native.Nat.{ℕ, _<_}
 use lib.Dec.{eqb}
 use borrow.Author.Tests.{eqb-true, eq-eqb}
-use Rattle.mask.specs.Sets.{has, anyBelow}
+use Rattle.mask.specs.Sets.{has, anyBelow, lessOf}
 use Rattle.mask.proofs.Tests.{clash, bool-ext, and-true, and-intro, or-cases, or-left, or-right}
 use Rattle.mask.proofs.Below.{any-intro, any-elim}
 use Rattle.table.specs.declared.Table.{Table}
 use Rattle.table.specs.Cells.{slotOf}
 use Rattle.relation.specs.Relation.{Right, rd, wr, wk, tx, bitAt, Holding, holdsIn}
-use Rattle.relation.specs.Closure.{bothTakePart, holdsStrong, link}
+use Rattle.relation.specs.Closure.{bothTakePart, holdsStrong, link, influencedSet}
 use Rattle.access.specs.Answers.{bornOutside}
 use Rattle.access.proofs.TableWords.{outside-facts}
-use Rattle.links.specs.Links.{linkWords, slotHolding, slotHeld, entryHeld, withHolder, joined, entryLink}
+use Rattle.links.specs.declared.Spread.{Spread}
+use Rattle.links.specs.Links.{linkWords, wordEdge, slotHolding, slotHeld, entryHeld, withHolder, joined, entryLink}
+use Rattle.links.specs.Helpers.{spreadOf}
 use Rattle.links.proofs.Edges.{words-same}
+use Rattle.links.proofs.Rounds.{spread-links}
 use Rattle.links.proofs.Holdings.{entries-join}
 use Rattle.bounds.specs.declared.EntryList.{EntryList}
-use Rattle.bounds.specs.StandIn.{entriesOf, entryAt, listed, standIn, testNode, testHeld, testHolding}
-use Rattle.bounds.proofs.Words.{free-node, x-node, node-cases, held-free, held-x, held-not, held-cases, entry-at, long}
+use Rattle.bounds.specs.StandIn.{entriesOf, entryAt, listed, standIn, testNode, testHeld, testHolding, boundOf}
+use Rattle.bounds.specs.Helpers.{boundGrown}
+use Rattle.bounds.proofs.Holding.{free-node, x-node, node-cases, held-free, held-x, held-not, held-cases, entry-at, long}
 
 -- the same test, and the same behind it where it passes
 both : (a b p q : Bool) → a ≡ b → (b ≡ true → p ≡ q) → (a && p) ≡ (b && q)
@@ -102,3 +107,24 @@ module _ (t : Table) (members : ℕ) (l : EntryList) (low : standIn members < 64
   pub test-links : joined (linkWords (slotHolding (t .slots) outside)) (entryLink (l .entries) (l .count) outside X) ≡ linkWords test
   unfolding linkWords
   test-links = entries-join (t .slots) outside (l .entries) (l .count) X ∙ words-same _ _ (λ x y hx hy. link-same x y)
+
+-- what the code's calls come to: the links of the test, and the bound that grows along them
+pub joined-own : (own held words : List ℕ) (edge : ℕ → ℕ → Bool) → own ≡ held → words ≡ joined own edge → words ≡ joined held edge
+joined-own own held words edge e f = f ∙ ap (λ (w : List ℕ). joined w edge) e
+
+pub code-links : (t : Table) (members : ℕ) (l : EntryList) (outside x : ℕ) (words : List ℕ) → standIn members < 64 → outside ≡ bornOutside (t .records) members → x ≡ standIn members
+    → words ≡ joined (linkWords (slotHolding (t .slots) outside)) (entryLink (l .entries) (l .count) outside x) → words ≡ linkWords (testHolding t members (entriesOf l))
+code-links t members l outside x words low o e f = f
+    ∙ (λ i. joined (linkWords (slotHolding (t .slots) (o i))) (entryLink (l .entries) (l .count) (o i) (e i)))
+    ∙ test-links t members l low
+
+pub bound-answer : (t : Table) (members : ℕ) (l : EntryList) (x objects : ℕ) (words : List ℕ) (spread : Spread) → standIn members < 64 → x ≡ standIn members
+    → words ≡ linkWords (testHolding t members (entriesOf l)) → spread ≡ spreadOf (wordEdge words) x → objects ≡ lessOf (spread .set) members
+    → record { bound = objects; rounds = spread .rounds } ≡ boundGrown t members (entriesOf l)
+unfolding boundGrown boundOf influencedSet spreadOf
+bound-answer t members l x objects words spread low e f g h =
+    let H = testHolding t members (entriesOf l) in
+    let r : spread ≡ spreadOf (link H) (standIn members) = g ∙ ap₂ (λ (w : List ℕ) (i : ℕ). spreadOf (wordEdge w) i) f e ∙ spread-links H (standIn members) in
+    ap₂ (λ (a b : ℕ). record { bound = a; rounds = b })
+    (h ∙ ap (λ (s : Spread). lessOf (s .set) members) r ∙ rw (x-node t members l low, influencedSet) refl)
+    (ap (λ (s : Spread). s .rounds) r)

@@ -1,4 +1,4 @@
--- Document 02, 2.1: the links of a chain, from the capabilities themselves.
+-- Document 02, 2.1: the links of a test, from the capabilities themselves. Chains (2.1) and rounds (2.6) go along them.
 use mathlib.Core.Path.{_≡_}
 use mathlib.Core.Bool.{Bool, false, true, not, _&&_, _||_}
 use mathlib.Core.List.{List}
@@ -28,6 +28,6 @@ listLink members list u v = anyBelow (length list) (λ k. capabilityLink (standI
 unfoldable pub linked : Table → ℕ → List Capability → ℕ → ℕ → Bool
 linked t members list u v = slotsLink t members u u v || slotsLink t members v u v || listLink members list u v
 
--- a link of a chain: "the stand-in left out", it leads to a non-member
-unfoldable pub chainLink : Table → ℕ → List Capability → ℕ → ℕ → Bool
-chainLink t members list u v = not (has v members) && linked t members list u v
+-- a link to an object: chains have "the stand-in left out" and rounds add objects, so it leads to a non-member
+unfoldable pub objectLink : Table → ℕ → List Capability → ℕ → ℕ → Bool
+objectLink t members list u v = not (has v members) && linked t members list u v

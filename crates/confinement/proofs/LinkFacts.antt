@@ -1,4 +1,4 @@
--- A link of a chain: what is computed is what 2.1 says, one capability of a non-member's slot or of an entry, and, where the test is
+-- A link of 2.1: what is computed is what 2.1 says, one capability of a non-member's slot or of an entry, and, where the test is
 -- accepted, the link of the test's holding. Assumes nothing.
 use mathlib.Core.Path.{_≡_, refl, sym, _∙_, ap₂}
 use mathlib.Core.Bool.{true, false, not, _&&_, _||_, false≢true}
@@ -20,9 +20,9 @@ use Rattle.relation.proofs.Exact.{isStrong, bond-link, held-bond, held-link}
 use Rattle.links.specs.Links.{hasStrong, capabilityLink}
 use Rattle.bounds.specs.StandIn.{entryAt, listed as listedIn, standIn, testNode, testHeld, testHolding}
 use Rattle.bounds.proofs.Exact.{node-low}
 use Rattle.confinement.proofs.TestFacts.{Facts}
 use Rattle.confinement.proofs.Held.{Has, has-target, slot-has, entry-has}
-use Rattle.chains.specs.Links.{Link, held, listed, slotsLink, listLink, linked}
+use Rattle.confinement.specs.Links.{Link, held, listed, slotsLink, listLink, linked}
 
 -- one capability ----------------------------------------------------------------------------
 -- its holder is one of the link's ends
