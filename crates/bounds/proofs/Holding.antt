@@ -14,7 +14,7 @@ use Rattle.table.specs.declared.Capability.{Capability}
 use Rattle.table.specs.declared.Table.{Table}
 use Rattle.table.specs.Cells.{slotOf, emptySlot}
 use Rattle.table.proofs.Lists.{length-tabulate, getD-tabulate}
-use Rattle.relation.specs.Relation.{Right, Holding, holdsIn}
+use Rattle.relation.specs.Relation.{Right, Holding, takesPart, holdsIn}
 use Rattle.access.specs.Answers.{bornOutside}
 use Rattle.access.proofs.TableWords.{outside-facts, outside-intro}
 use Rattle.bounds.specs.declared.EntryList.{EntryList}
@@ -55,7 +55,26 @@ pub standing : (set : ℕ) → standIn set < 64 → has (standIn set) set ≡ tr
 unfolding standIn
 standing set h = lowest-has 64 0 (λ n. has n set) (omega arith)
 
--- the test's holding --------------------------------------------------------------------------
+-- who takes part in the test's holding: the born non-members and the stand-in -----------------------
+module _ (t : Table) (members : ℕ) where
+  pub node-out : (n : ℕ) → takesPart t n ≡ true → has n members ≡ false → testNode t members n ≡ true
+  unfolding testNode
+  node-out n e o = rw (o, testNode) e
+
+  pub node-born : (n : ℕ) → testNode t members n ≡ true → has n members ≡ false → takesPart t n ≡ true
+  unfolding testNode
+  node-born n e o = rw (o, testNode) at e
+
+  pub node-x : standIn members < 64 → testNode t members (standIn members) ≡ true
+  unfolding testNode
+  node-x low = rw (standing members low, testNode)
+      (and-intro (ltb (standIn members) 64) (eqb (standIn members) (standIn members)) (lt-ltb (standIn members) 64 low) (eq-eqb (standIn members) (standIn members) refl))
+
+  pub node-x-only : (n : ℕ) → testNode t members n ≡ true → has n members ≡ true → n ≡ standIn members
+  unfolding testNode
+  node-x-only n e m = eqb-true n (standIn members) (and-true (ltb n 64) (eqb n (standIn members)) (rw (m, testNode) at e) .1)
+
+-- and what is held there, with the list as the code has it ---------------------------------------------
 module _ (t : Table) (members : ℕ) (l : EntryList) (low : standIn members < 64) where
   abbrev X : ℕ
   X = standIn members
@@ -73,19 +92,12 @@ module _ (t : Table) (members : ℕ) (l : EntryList) (low : standIn members < 64
   lowest = standing members low
 
   pub free-node : (x : ℕ) → has x F ≡ true → testNode t members x ≡ true
-  unfolding testNode
-  free-node x e = let p = outside-facts t members x e in rw (p .1, testNode) (p .0)
+  free-node x e = let p = outside-facts t members x e in node-out t members x (p .0) (p .1)
 
-  pub x-node : testNode t members X ≡ true
-  unfolding testNode
-  x-node = rw (lowest, testNode) (and-intro (ltb X 64) (eqb X X) (lt-ltb X 64 low) (eq-eqb X X refl))
-
-  -- who takes part is a born non-member or the stand-in
   pub node-cases : {P : Type 0} (x : ℕ) → testNode t members x ≡ true → (has x members ≡ false → has x F ≡ true → P) → (has x members ≡ true → x ≡ X → P) → P
-  unfolding testNode
   node-cases x e f g = byCases (has x members)
-      (λ h. g h (eqb-true x X (and-true (ltb x 64) (eqb x X) (rw (h, testNode) at e) .1)))
-      (λ h. f h (outside-intro t members x (rw (h, testNode) at e) h))
+      (λ h. g h (node-x-only t members x e h))
+      (λ h. f h (outside-intro t members x (node-born t members x e h) h))
 
   pub held-free : (b : Right) (x y : ℕ) → has x members ≡ false → has y members ≡ false → holdsIn t b x y ≡ true → testHeld t members list b x y ≡ true
   unfolding testHeld

@@ -25,7 +25,7 @@ use Rattle.links.proofs.Holdings.{entries-join}
 use Rattle.bounds.specs.declared.EntryList.{EntryList}
 use Rattle.bounds.specs.StandIn.{entriesOf, entryAt, listed, standIn, testNode, testHeld, testHolding, boundOf}
 use Rattle.bounds.specs.Helpers.{boundGrown}
-use Rattle.bounds.proofs.Holding.{free-node, x-node, node-cases, held-free, held-x, held-not, held-cases, entry-at, long}
+use Rattle.bounds.proofs.Holding.{node-x, free-node, node-cases, held-free, held-x, held-not, held-cases, entry-at, long}
 
 -- the same test, and the same behind it where it passes
 both : (a b p q : Bool) → a ≡ b → (b ≡ true → p ≡ q) → (a && p) ≡ (b && q)
@@ -48,7 +48,7 @@ module _ (t : Table) (members : ℕ) (l : EntryList) (low : standIn members < 64
   node-same : (n : ℕ) → (has n outside || eqb n X) ≡ testNode t members n
   node-same n = bool-ext _ _
       (λ e. or-cases (has n outside) (eqb n X) e (free-node t members l low n)
-      (λ h. subst⁻¹ (λ (m : ℕ). testNode t members m ≡ true) (eqb-true n X h) (x-node t members l low)))
+      (λ h. subst⁻¹ (λ (m : ℕ). testNode t members m ≡ true) (eqb-true n X h) (node-x t members low)))
       (λ e. node-cases t members l low n e (λ h f. or-left (has n outside) _ f) (λ h q. or-right (has n outside) (eqb n X) (eq-eqb n X q)))
 
   -- what the entries list, as the code holds them
@@ -126,5 +126,5 @@ bound-answer t members l x objects words spread low e f g h =
     let H = testHolding t members (entriesOf l) in
     let r : spread ≡ spreadOf (link H) (standIn members) = g ∙ ap₂ (λ (w : List ℕ) (i : ℕ). spreadOf (wordEdge w) i) f e ∙ spread-links H (standIn members) in
     ap₂ (λ (a b : ℕ). record { bound = a; rounds = b })
-    (h ∙ ap (λ (s : Spread). lessOf (s .set) members) r ∙ rw (x-node t members l low, influencedSet) refl)
+    (h ∙ ap (λ (s : Spread). lessOf (s .set) members) r ∙ rw (node-x t members low, influencedSet) refl)
     (ap (λ (s : Spread). s .rounds) r)

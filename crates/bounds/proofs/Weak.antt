@@ -8,7 +8,7 @@ use Prim.Native.Nat.{ℕ, _<_}
 use lib.Dec.{eqb}
 use lib.ListN.{length}
 use borrow.Author.Tests.{ne-eqb}
-use Rattle.mask.specs.Sets.{has}
+use Rattle.mask.specs.Sets.{has, anyBelow}
 use Rattle.mask.proofs.Tests.{byCases, bool-ext, and-false, or-cases, or-left, or-right}
 use Rattle.mask.proofs.Below.{any-first}
 use Rattle.mask.proofs.Bits.{bits-ext}
@@ -21,14 +21,29 @@ use Rattle.bounds.specs.StandIn.{entryAt, listed, standIn, testHeld, tes
 use Rattle.bounds.specs.Exactness.{WithWeak, none, kept, put, WeakEntriesFree}
 use Rattle.bounds.proofs.Exact.{bound-lt, bound-only, bound-all}
 
--- what is listed, entry by entry -------------------------------------------------------------
+-- entry by entry ---------------------------------------------------------------------------
+-- some entry of a list passes a test
+abbrev some : List Capability → (Capability → Bool) → Bool
+some list p = anyBelow (length list) (λ k. p (entryAt list k))
+
+some-cons : (e : Capability) (list : List Capability) (p : Capability → Bool) → some (e ∷ list) p ≡ (p e || some list p)
+some-cons e list p = any-first (length list) (λ k. p (entryAt (e ∷ list) k))
+
+-- where entries of wk alone do not pass, they can be put in
+pub some-same : (p : Capability → Bool) → ((e : Capability) → e .rights ≡ 4 → p e ≡ false) → {list longer : List Capability} → WithWeak list longer
+    → some longer p ≡ some list p
+some-same p f none = refl
+some-same p f (kept e {list} {longer} w) = some-cons e longer p ∙ ap (λ (x : Bool). p e || x) (some-same p f w) ∙ sym (some-cons e list p)
+some-same p f (put e {list} {longer} q w) = some-cons e longer p ∙ ap₂ (λ (x z : Bool). x || z) (f e q) (some-same p f w)
+
+-- what is listed ---------------------------------------------------------------------------
 -- the entry is for y and has the right
 abbrev pub lists : Capability → Right → ℕ → Bool
 lists e b y = eqb (e .target) y && has (bitAt b) (e .rights)
 
 pub listed-cons : (e : Capability) (list : List Capability) (b : Right) (y : ℕ) → listed (e ∷ list) b y ≡ (lists e b y || listed list b y)
 unfolding listed
-listed-cons e list b y = any-first (length list) (λ k. lists (entryAt (e ∷ list) k) b y)
+listed-cons e list b y = some-cons e list (λ c. lists c b y)
 
 -- wk alone has none of the others
 weak-bit : (b : Right) → isStrong b ≡ true → has (bitAt b) 4 ≡ false
@@ -41,11 +56,8 @@ weak-lists : (e : Capability) (b : Right) (y : ℕ) → e .rights ≡ 4 → isSt
 weak-lists e b y q s = ap (λ (r : ℕ). eqb (e .target) y && has (bitAt b) r) q ∙ ap (λ (x : Bool). eqb (e .target) y && x) (weak-bit b s) ∙ and-false (eqb (e .target) y)
 
 pub listed-strong : {list longer : List Capability} → WithWeak list longer → (b : Right) (y : ℕ) → isStrong b ≡ true → listed longer b y ≡ listed list b y
-listed-strong none b y s = refl
-listed-strong (kept e {list} {longer} w) b y s =
-    listed-cons e longer b y ∙ ap (λ (x : Bool). lists e b y || x) (listed-strong w b y s) ∙ sym (listed-cons e list b y)
-listed-strong (put e {list} {longer} q w) b y s =
-    listed-cons e longer b y ∙ ap₂ (λ (x z : Bool). x || z) (weak-lists e b y q s) (listed-strong w b y s)
+unfolding listed
+listed-strong w b y s = some-same (λ e. lists e b y) (λ e q. weak-lists e b y q s) w
 
 -- and nothing is listed no more
 pub listed-still : {list longer : List Capability} → WithWeak list longer → (b : Right) (y : ℕ) → listed list b y ≡ true → listed longer b y ≡ true

@@ -14,12 +14,13 @@ use Rattle.relation.specs.Relation.{Holding, takesPart}
 use Rattle.relation.specs.Closure.{link, reached}
 use Rattle.relation.proofs.Reach.{path-into, reached-path, path-reached}
 use Rattle.bounds.specs.StandIn.{standIn, testHolding, boundOf}
+use Rattle.bounds.proofs.Holding.{node-born}
 use Rattle.confinement.proofs.TestFacts.{Facts}
 use Rattle.walks.specs.Chains.{Chain, last, more, leastChain}
 use Rattle.confinement.specs.Links.{objectLink}
 use Rattle.walks.proofs.Shortest.{walk-chain, chain-path}
 use Rattle.walks.proofs.Layered.{Walks, least-walks}
-use Rattle.confinement.proofs.ObjectLinks.{edge-facts, link-nodes, link-low, edge-low, edge-beside, node-born, bound-low, bound-is, bound-apart}
+use Rattle.confinement.proofs.ObjectLinks.{edge-facts, link-nodes, link-low, edge-low, edge-beside, bound-low, bound-is, bound-apart}
 
 module _ (t : Table) (members : ℕ) (list : List Capability) (d : Sound t) (ok : Facts t members list) where
   abbrev H : Holding
@@ -56,7 +57,7 @@ module _ (t : Table) (members : ℕ) (list : List Capability) (d : Sound t) (ok 
 
   -- In plain words: what a chain leads to is a born non-member, in the bound
   pub chain-born : {x z : ℕ} {cs : List ℕ} → Chain edge z x cs → takesPart t z ≡ true
-  chain-born {x} {z} c = chain-end c (λ y e. let f = edge-facts t members list d ok y z e in node-born t members list d ok z (link-nodes t members list d ok y z (f .linked) .1) (f .out))
+  chain-born {x} {z} c = chain-end c (λ y e. let f = edge-facts t members list d ok y z e in node-born t members z (link-nodes t members list d ok y z (f .linked) .1) (f .out))
 
   pub chain-bound : {z : ℕ} {cs : List ℕ} → Chain edge z X cs → has z (boundOf t members list) ≡ true
   chain-bound {z} c = chain-end c (λ y e.

@@ -5,14 +5,14 @@
 use mathlib.Core.Path.{_≡_, refl, sym, _∙_, ap, ap₂, fun-ext}
 use mathlib.Core.Logic.{⊎-elim}
 use mathlib.Core.Bool.{Bool, true, false, not, _&&_, _||_}
-use mathlib.Core.List.{List, _∷_}
+use mathlib.Core.List.{List}
 use Prim.Native.Nat.{ℕ}
 use lib.Dec.{ltb, eqb}
 use lib.ListN.{length}
 use borrow.Author.Tests.{eqb-true, eq-eqb, ne-eqb}
 use Rattle.mask.specs.Sets.{has, anyBelow}
 use Rattle.mask.proofs.Tests.{byCases, byEq, clash, and-true, and-intro, and-false, or-cases, or-left, or-right, imply-intro}
-use Rattle.mask.proofs.Below.{any-ext, any-first}
+use Rattle.mask.proofs.Below.{any-ext}
 use Rattle.mask.proofs.Bits.{has-zero}
 use Rattle.table.specs.declared.Capability.{Capability}
 use Rattle.table.specs.declared.Record.{Record}
@@ -25,9 +25,9 @@ use Rattle.links.specs.Links.{capabilityLink}
 use Rattle.links.specs.Rounds.{roundsFrom}
 use Rattle.bounds.specs.StandIn.{entryAt, listed, standIn, boundOf}
 use Rattle.bounds.specs.Agreement.{AgreeOutside}
-use Rattle.bounds.specs.Exactness.{BoundBlind, WithWeak, none, kept, put, WeakEntriesFree}
+use Rattle.bounds.specs.Exactness.{BoundBlind, WithWeak, WeakEntriesFree}
 use Rattle.bounds.proofs.Exact.{bound-blind}
-use Rattle.bounds.proofs.Weak.{listed-still, weak-entries-free}
+use Rattle.bounds.proofs.Weak.{some-same, listed-still, weak-entries-free}
 use Rattle.confinement.specs.declared.Verdict.the-variants.{Accepted}
 use Rattle.confinement.specs.declared.Tested.{Tested}
 use Rattle.confinement.specs.Refusals.{verdictNumber, badMembers, badEntry, badList, rightListed, allListed, passes, badHeld, memberHeld, verdictOf}
@@ -135,10 +135,6 @@ still-passes {list} {longer} w c e = byEq (c .rights) 4
     (λ q. weak-passes longer c q)
     (λ q. listed-passes longer c (each-listed longer c (λ b h. listed-still w b (c .target) (listed-each list c b (passed-listed list c e q) h))))
 
-list-cons : (members : ℕ) (e : Capability) (list : List Capability) (u v : ℕ) → listLink members (e ∷ list) u v ≡ (capabilityLink (standIn members) e u v || listLink members list u v)
-unfolding listLink
-list-cons members e list u v = any-first (length list) (λ k. capabilityLink (standIn members) (entryAt (e ∷ list) k) u v)
-
 module _ (t : Table) (members : ℕ) (list longer : List Capability) (w : WithWeak list longer) where
   still-held : badHeld t members list ≡ false → badHeld t members longer ≡ false
   unfolding badHeld
@@ -158,18 +154,15 @@ module _ (t : Table) (members : ℕ) (list longer : List Capability) (w : WithWe
     unfolding capabilityLink
     weak-link e u v q o = rw (q, ne-eqb v (standIn members) (λ p. clash lowest (rw p at o))) (and-false (eqb u (e .target)))
 
-    same-listed : {short long : List Capability} → WithWeak short long → (u v : ℕ) → has v members ≡ false → listLink members long u v ≡ listLink members short u v
-    same-listed none u v o = refl
-    same-listed (kept e {list = short} {longer = long} z) u v o = list-cons members e long u v
-        ∙ ap (λ (b : Bool). capabilityLink (standIn members) e u v || b) (same-listed z u v o) ∙ sym (list-cons members e short u v)
-    same-listed (put e {list = short} {longer = long} q z) u v o = list-cons members e long u v
-        ∙ ap₂ (λ (a b : Bool). a || b) (weak-link e u v q o) (same-listed z u v o)
+    same-listed : (u v : ℕ) → has v members ≡ false → listLink members longer u v ≡ listLink members list u v
+    unfolding listLink
+    same-listed u v o = some-same (λ e. capabilityLink (standIn members) e u v) (λ e q. weak-link e u v q o) w
 
     same-link : (u v : ℕ) → objectLink t members longer u v ≡ objectLink t members list u v
     unfolding objectLink linked
     same-link u v = byCases (has v members)
         (λ o. rw o refl)
-        (λ o. ap (λ (b : Bool). not (has v members) && (slotsLink t members u u v || slotsLink t members v u v || b)) (same-listed w u v o))
+        (λ o. ap (λ (b : Bool). not (has v members) && (slotsLink t members u u v || slotsLink t members v u v || b)) (same-listed u v o))
 
     still-rounds : roundsOf t members longer ≡ roundsOf t members list
     unfolding roundsOf

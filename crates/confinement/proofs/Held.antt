@@ -1,13 +1,13 @@
--- What the holding of an accepted test has: who takes part, and of each capability that a non-member's slot or an entry has, that both
+-- What the holding of an accepted test has: of each capability that a non-member's slot or an entry has, that both
 -- ends take part and that it is held. Assumes nothing.
 use mathlib.Core.Path.{_≡_, refl}
 use mathlib.Core.Bool.{true, false}
 use mathlib.Core.List.{List}
 use Prim.Native.Nat.{ℕ, _≤_, _<_}
 use native.Mathlib.Omega.{arith}
-use lib.Dec.{ltb, eqb}
+use lib.Dec.{eqb}
 use lib.ListN.{length}
-use borrow.Author.Tests.{lt-ltb, eqb-true, eq-eqb}
+use borrow.Author.Tests.{eqb-true, eq-eqb}
 use Rattle.mask.specs.Sets.{has}
 use Rattle.mask.proofs.Tests.{byCases, byEq, clash, and-true, and-intro}
 use Rattle.mask.proofs.Below.{any-intro}
@@ -18,13 +18,9 @@ use Rattle.table.specs.Cells.{slotAt, isEmpty}
 use Rattle.table.proofs.SoundFacts.{Sound}
 use Rattle.relation.specs.Relation.{Right, bitAt, takesPart, holdsIn}
 use Rattle.bounds.specs.StandIn.{entryAt, listed, standIn, testNode, testHeld}
+use Rattle.bounds.proofs.Holding.{node-out, node-x}
 use Rattle.confinement.proofs.TestFacts.{Facts}
 use Rattle.relation.proofs.Tables.{part-low, takes-part}
-
--- who takes part -----------------------------------------------------------------------
-pub node-out : (t : Table) (members n : ℕ) → takesPart t n ≡ true → has n members ≡ false → testNode t members n ≡ true
-unfolding testNode
-node-out t members n h o = rw (o, testNode) h
 
 filled : (c : Capability) → 1 ≤ c .rights → isEmpty c ≡ false
 filled c l = byCases (isEmpty c) (λ e. absurd (omega (arith, eqb-true (c .rights) 0 (and-true (eqb (c .target) 0) (eqb (c .rights) 0) e .1)))) (λ e. e)
@@ -36,10 +32,6 @@ some k r e = byEq r 0 (λ q. clash (rw q at e) (has-zero k)) (λ q. omega arith)
 module _ (t : Table) (members : ℕ) (list : List Capability) (d : Sound t) (ok : Facts t members list) where
   abbrev X : ℕ
   X = standIn members
-
-  pub node-x : testNode t members X ≡ true
-  unfolding testNode
-  node-x = rw (ok .lowest, testNode) (and-intro (ltb X 64) (eqb X X) (lt-ltb X 64 (ok .low)) (eq-eqb X X refl))
 
   -- x holds the right over y, which is no member, and both take part
   pub record Has (b : Right) (x y : ℕ) : Type 0 where
@@ -72,7 +64,7 @@ module _ (t : Table) (members : ℕ) (list : List Capability) (d : Sound t) (ok 
   listed-has b y e =
       let p = ok .named b y e in
       record {
-        holder = node-x;
+        holder = node-x t members (ok .low);
         part = p .0;
         out = p .1;
         held = rw (p .1, ok .lowest, testHeld) (and-intro (eqb X X) (listed list b y) (eq-eqb X X refl) e);

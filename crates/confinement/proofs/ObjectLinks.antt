@@ -5,21 +5,21 @@ use mathlib.Core.Logic.{_≢_}
 use mathlib.Core.Bool.{Bool, true, false, not, _&&_}
 use mathlib.Core.List.{List}
 use Prim.Native.Nat.{ℕ, _<_}
-use lib.Dec.{ltb, eqb}
-use borrow.Author.Tests.{ltb-true, ltb-false, eqb-true, not-true}
+use lib.Dec.{ltb}
+use borrow.Author.Tests.{ltb-true, ltb-false, not-true}
 use Rattle.mask.specs.Sets.{has}
 use Rattle.mask.proofs.Tests.{byCases, clash, and-true, and-intro}
 use Rattle.mask.proofs.Bits.{has-high}
 use Rattle.table.specs.declared.Capability.{Capability}
 use Rattle.table.specs.declared.Table.{Table}
 use Rattle.table.proofs.SoundFacts.{Sound}
-use Rattle.relation.specs.Relation.{Holding, takesPart}
+use Rattle.relation.specs.Relation.{Holding}
 use Rattle.relation.specs.Closure.{bothTakePart, link, reached, influencedSet}
 use Rattle.bounds.specs.StandIn.{standIn, testNode, testHolding, boundOf}
 use Rattle.bounds.proofs.Exact.{node-low, bound-bit, bound-lt}
+use Rattle.bounds.proofs.Holding.{node-x, node-x-only}
 use Rattle.confinement.specs.Links.{objectLink}
 use Rattle.confinement.proofs.TestFacts.{Facts}
-use Rattle.confinement.proofs.Held.{node-x}
 use Rattle.confinement.proofs.LinkFacts.{linked-test}
 
 module _ (t : Table) (members : ℕ) (list : List Capability) (d : Sound t) (ok : Facts t members list) where
@@ -55,16 +55,6 @@ module _ (t : Table) (members : ℕ) (list : List Capability) (d : Sound t) (ok 
   pub edge-low : (u v : ℕ) → edge u v ≡ true → (u < 64) × (v < 64)
   edge-low u v e = link-low u v (edge-facts u v e .linked)
 
-  -- who takes part is the stand-in, if a member
-  node-x-only : (n : ℕ) → testNode t members n ≡ true → has n members ≡ true → n ≡ X
-  unfolding testNode
-  node-x-only n e m = eqb-true n X (and-true (ltb n 64) (eqb n X) (rw (m, testNode) at e) .1)
-
-  -- and else a born non-member
-  pub node-born : (n : ℕ) → testNode t members n ≡ true → has n members ≡ false → takesPart t n ≡ true
-  unfolding testNode
-  node-born n e o = rw (o, testNode) at e
-
   -- the bound is what links reach from the stand-in -----------------------------------------------
   pub bound-low : (z : ℕ) → has z (boundOf t members list) ≡ true → z < 64
   bound-low z e = byCases (ltb z 64) (ltb-true z 64)
@@ -72,11 +62,11 @@ module _ (t : Table) (members : ℕ) (list : List Capability) (d : Sound t) (ok 
 
   pub bound-is : (z : ℕ) → z < 64 → has z (boundOf t members list) ≡ (has z (reached (link H) X) && not (has z members))
   unfolding influencedSet
-  bound-is z h = bound-bit t members list z h ∙ rw (node-x t members list d ok, influencedSet) refl
+  bound-is z h = bound-bit t members list z h ∙ rw (node-x t members (ok .low), influencedSet) refl
 
   -- a link to anybody but the stand-in leads to a non-member
   pub edge-beside : (u v : ℕ) → v ≢ X → link H u v ≡ true → edge u v ≡ true
-  edge-beside u v n e = byCases (has v members) (λ m. absurd (n (node-x-only v (link-nodes u v e .1) m))) (λ m. edge-intro u v m e)
+  edge-beside u v n e = byCases (has v members) (λ m. absurd (n (node-x-only t members v (link-nodes u v e .1) m))) (λ m. edge-intro u v m e)
 
   pub bound-out : (z : ℕ) → has z (boundOf t members list) ≡ true → has z members ≡ false
   bound-out z e = not-true _ (and-true (has z (reached (link H) X)) _ (sym (bound-is z (bound-low z e)) ∙ e) .1)

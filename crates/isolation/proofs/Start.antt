@@ -21,8 +21,9 @@ use Rattle.relation.specs.Relation.{Right, rd, wr, wk, tx, bitAt, Holding, Can,
 use Rattle.relation.proofs.Exact.{isStrong}
 use Rattle.bounds.specs.StandIn.{standIn, testNode, testHolding, boundOf}
 use Rattle.bounds.proofs.Exact.{bound-only, bound-all}
+use Rattle.bounds.proofs.Holding.{node-out}
 use Rattle.confinement.proofs.TestFacts.{Facts}
-use Rattle.confinement.proofs.Held.{node-out, Has, has-target, slot-has, listed-has}
+use Rattle.confinement.proofs.Held.{Has, has-target, slot-has, listed-has}
 use Rattle.relation.proofs.Tables.{part-low, takes-part}
 use Rattle.isolation.specs.Clean.{cleanAtStart}
 use Rattle.isolation.proofs.Invariant.{wkAlone, Isolated}
