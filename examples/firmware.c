@@ -1,7 +1,8 @@
 /*
- * A small main loop over the capability table: load an image, serve the mailboxes, show that a copy of nothing
- * clears no channel, test a newly loaded subsystem and say how it gets at an object, test a routine that reads more
- * objects than a list has room for, judge a table of an older rig by the same test, write the image back.
+ * A small main loop over the capability table: load an image, serve the mailboxes, say who made an object, show that
+ * a copy of nothing clears no channel, test a newly loaded subsystem and say how it gets at an object, test a routine
+ * that reads more objects than a list has room for, judge a table of an older rig by the same test, write the image
+ * back. An image may be of either version; what is written is of version 2, for a maker has no place in version 1.
  *
  *     firmware IMAGE NEW_IMAGE
  *
@@ -99,6 +100,17 @@ static void serve(void)
     }
 }
 
+/* Who made an object, for the technician. */
+static void show_maker(size_t n)
+{
+    uint8_t maker = table.records[n].maker;
+
+    if (maker == CAPTABLE_NO_MAKER)
+        printf("%u was not made in a run\n", (unsigned)n);
+    else
+        printf("%u was made by %u\n", (unsigned)n, maker);
+}
+
 /* What a slot holds, for the log. */
 static void show_slot(size_t n, size_t j)
 {
@@ -140,7 +152,7 @@ static void copy_nothing(void)
 /* Reads the image into the table. */
 static int load(const char *path)
 {
-    uint8_t image[CAPTABLE_IMAGE_BYTES + 1]; /* one more, so that a longer file is seen as such */
+    uint8_t image[CAPTABLE_IMAGE_BYTES + 1]; /* one more than the longer form, so that a longer file is seen as such */
     captable_outcome outcome;
     size_t length;
     FILE *file = fopen(path, "rb");
@@ -212,6 +224,7 @@ static int read_materials(void)
     const uint64_t routine = 7; /* bits 0, 1 and 2 */
     size_t k;
 
+    rig = captable_unborn(); /* the zeros of a static table are not sound */
     for (k = 0; k < 27; k++) {
         rig.records[k].status = CAPTABLE_ALIVE;
         rig.records[k].kind = k < 3 ? CAPTABLE_ACTIVE : CAPTABLE_PASSIVE;
@@ -293,6 +306,8 @@ int main(int count, char **words)
     ask_again();
     serve();
     printf("3's word is %lu\n", (unsigned long)table.records[3].word);
+    show_maker(5);
+    show_maker(10);
     copy_nothing();
     if (admit("subsystem", &table, members, list, sizeof list) != CAPTABLE_DONE || explain(2) != 0)
         return 1;

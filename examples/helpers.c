@@ -1,6 +1,7 @@
 /*
- * What the header itself gives: reasons, stamping, slots, version, sizes, the bytes of requests. Each is held
- * to what the documents say, written out here. Exit status: 0 if all is as it should be, 1 if not.
+ * What the header itself gives: reasons, stamping, slots, version, sizes, the bytes of requests; and what a table
+ * begins with. Each is held to what the documents say, written out here. Exit status: 0 if all is as it should be, 1
+ * if not.
  */
 #include "captable.h"
 
@@ -17,7 +18,7 @@ static void check(int holds, const char *what)
     }
 }
 
-/* One reason for each of 0 to 22, each other than the rest, and one for all numbers that are no answer. */
+/* One reason for each of 0 to 23, each other than the rest, and one for all numbers that are no answer. */
 static void reasons(void)
 {
     unsigned a, b;
@@ -25,10 +26,10 @@ static void reasons(void)
     for (a = 0; a <= 255; a++) {
         const char *reason = captable_reason((uint8_t)a);
         check(reason != NULL && strlen(reason) > 3, "every number has a reason");
-        if (a > 23)
-            check(strcmp(reason, captable_reason(23)) == 0, "23 and above are no answers");
+        if (a > 24)
+            check(strcmp(reason, captable_reason(24)) == 0, "24 and above are no answers");
     }
-    for (a = 0; a <= 23; a++)
+    for (a = 0; a <= 24; a++)
         for (b = 0; b < a; b++)
             check(strcmp(captable_reason((uint8_t)a), captable_reason((uint8_t)b)) != 0, "reasons differ");
     check(strcmp(captable_reason(0), "done") == 0, "0 is done");
@@ -49,7 +50,7 @@ static void numbers(void)
     check(CAPTABLE_BUFFER_SHORT == 16 && CAPTABLE_INPUT_WRONG == 17, "16 and 17");
     check(CAPTABLE_OBJECT_INVALID == 18 && CAPTABLE_OUTSIDE_BOUND == 19, "18 and 19");
     check(CAPTABLE_IMPORT_LENGTH_WRONG == 20 && CAPTABLE_IMPORT_VERSION_WRONG == 21, "20 and 21");
-    check(CAPTABLE_IMPORT_VALUE_WRONG == 22, "22");
+    check(CAPTABLE_IMPORT_VALUE_WRONG == 22 && CAPTABLE_MAKER_RECORDED == 23, "22 and 23");
 }
 
 /* The stamp is the second byte, of any bytes that have one, and no other byte. */
@@ -75,17 +76,58 @@ static void slots(void)
     captable_capability held;
     size_t k;
 
+    table = other = captable_unborn();
     captable_slot_at(&table, 7, 3)->target = 5;
     captable_slot_at(&table, 7, 3)->rights = CAPTABLE_RD | CAPTABLE_TX;
     other.slots[59].target = 5;
     other.slots[59].rights = 9;
-    check(memcmp(&table, &other, sizeof table) == 0, "a slot is put where the table has it");
+    check(memcmp(table.slots, other.slots, sizeof table.slots) == 0, "a slot is put where the table has it");
     held = captable_slot(&table, 7, 3);
     check(held.target == 5 && held.rights == 9, "a slot is got as it was put");
     check(captable_slot_at(&table, 63, 7) == &table.slots[511], "the last slot");
     for (k = 0; k < 512; k++)
         if (k != 59)
             check(captable_slot(&table, k / 8, k % 8).rights == 0, "the other slots are empty");
+}
+
+/* A table begins wholly unborn, and goes into an image of either version: a head of three bytes, and 30 bytes a
+ * record or, with the maker, 31. */
+static void beginnings(void)
+{
+    captable_table begun = captable_unborn();
+    uint8_t image[CAPTABLE_IMAGE_BYTES];
+    const size_t whole = CAPTABLE_IMAGE_BYTES, older = CAPTABLE_OLDER_IMAGE_BYTES;
+    size_t n;
+
+    check(whole == 3 + 64 * 31 && older == 3 + 64 * 30, "the lengths of images");
+    check(CAPTABLE_NO_MAKER == CAPTABLE_OBJECTS, "64 is no object's number");
+    for (n = 0; n < CAPTABLE_OBJECTS; n++)
+        check(begun.records[n].status == CAPTABLE_UNBORN && begun.records[n].maker == 64, "unborn, and made by nobody");
+    check(captable_sound(begun) == CAPTABLE_DONE, "the unborn table is sound");
+    check(captable_write(begun, image, whole) == CAPTABLE_DONE, "it has an image");
+    check(captable_write(begun, image, whole - 1) == CAPTABLE_BUFFER_SHORT, "which needs its length");
+    check(captable_write_older(begun, image, older) == CAPTABLE_DONE, "and one of the older form");
+    check(captable_write_older(begun, image, older - 1) == CAPTABLE_BUFFER_SHORT, "which needs its own length");
+    begun.records[9].status = CAPTABLE_DEAD;
+    begun.records[9].maker = 9;
+    check(captable_write_older(begun, image, 0) == CAPTABLE_MAKER_RECORDED, "but none with a maker, at any length");
+}
+
+/* A table of zeros is not sound, whoever is asked. */
+static void zeros(void)
+{
+    static captable_table table;
+    uint8_t image[CAPTABLE_IMAGE_BYTES], request[CAPTABLE_REQUEST_BYTES];
+    size_t length = captable_put_read(request, 0, 0);
+
+    check(captable_sound(table) == CAPTABLE_TABLE_UNSOUND, "zeros are not sound");
+    check(captable_step(&table, request, length) == CAPTABLE_TABLE_UNSOUND, "nor for a step");
+    check(captable_step_by_value(table, request, length).number == CAPTABLE_TABLE_UNSOUND, "nor for one by value");
+    check(captable_access(table).number == CAPTABLE_TABLE_UNSOUND, "nor for potential access");
+    check(captable_test(table, 1, NULL, 0).number == CAPTABLE_TABLE_UNSOUND, "nor for a test");
+    check(captable_chain(table, 1, NULL, 0, 0).number == CAPTABLE_TABLE_UNSOUND, "nor for a chain");
+    check(captable_write(table, image, sizeof image) == CAPTABLE_TABLE_UNSOUND, "nor for an image");
+    check(captable_write_older(table, image, sizeof image) == CAPTABLE_TABLE_UNSOUND, "nor for the older form");
 }
 
 /* The longest request, byte by byte in document 01's order, and lists that are too long. */
@@ -136,12 +178,14 @@ static void longest_import(void)
 
 int main(void)
 {
-    check(CAPTABLE_VERSION == 0 * 65536 + 7 * 256 + 0, "the header's version is 0.7.0");
+    check(CAPTABLE_VERSION == 0 * 65536 + 8 * 256 + 0, "the header's version is 0.8.0");
     check(captable_version() == CAPTABLE_VERSION, "the archive has the header's version");
     reasons();
     numbers();
     stamps();
     slots();
+    beginnings();
+    zeros();
     requests();
     longest_import();
     if (!wrong)

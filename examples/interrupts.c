@@ -194,6 +194,7 @@ static void fill_table(void)
     static const captable_capability held[3] = {{RECORD, CAPTABLE_WR}, {ROUTINE, CAPTABLE_WR}, {RECORD, CAPTABLE_RD}};
     size_t n;
 
+    table = captable_unborn();
     for (n = 0; n <= RECORD; n++) {
         table.records[n].status = CAPTABLE_ALIVE;
         table.records[n].kind = n == RECORD ? CAPTABLE_PASSIVE : CAPTABLE_ACTIVE;

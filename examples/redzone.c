@@ -59,24 +59,25 @@ static int keeps_below(int number)
 /* All that the calls answer. Tables are kept as their images, for the padding of a struct is anything. */
 struct answers {
     uint32_t version;
-    uint8_t numbers[12];
+    uint8_t numbers[15];
     uint64_t bound, rows[4 * CAPTABLE_OBJECTS];
     uint8_t rounds, chain[CAPTABLE_LINKS];
     uint8_t loaded[CAPTABLE_IMAGE_BYTES], after[CAPTABLE_IMAGE_BYTES], given[CAPTABLE_IMAGE_BYTES];
-    uint8_t imported[CAPTABLE_IMAGE_BYTES];
+    uint8_t imported[CAPTABLE_IMAGE_BYTES], unborn[CAPTABLE_IMAGE_BYTES], older[CAPTABLE_OLDER_IMAGE_BYTES];
     uint8_t printed[CAPTABLE_PRINTED];
     size_t count;
 };
 
-/* Makes every call. The allocate is document 01's example 6 and the test its example 1; of that test's bound
- * the chain is to object 2. The import has an entity with Store over another, and one with Create. */
+/* Makes every call, and reads an image of each version: the input has one of version 1, and what is written of the
+ * table after the step is one of version 2. The allocate is document 01's example 6 and the test its example 1; of
+ * that test's bound the chain is to object 2. The import has an entity with Store over another, and one with Create. */
 static void ask(const uint8_t *input, size_t length, struct answers *out)
 {
     static const uint8_t list[2] = {1, CAPTABLE_WR};
     static const uint8_t older[13] = {0, 13, 1, 3, 1, 1, 16, 0, 2, 0, 8, 1, 31};
     uint8_t request[CAPTABLE_REQUEST_BYTES];
     size_t size = captable_put_allocate(request, 5, 10, CAPTABLE_ACTIVE, (uint64_t)1 << 11, 7, NULL, 0);
-    captable_outcome loaded = captable_read(input, CAPTABLE_IMAGE_BYTES);
+    captable_outcome loaded = captable_read(input, CAPTABLE_OLDER_IMAGE_BYTES);
     captable_outcome given = captable_step_by_value(loaded.table, request, size);
     captable_table after = loaded.table;
     captable_relation relation = captable_access(loaded.table);
@@ -102,6 +103,9 @@ static void ask(const uint8_t *input, size_t length, struct answers *out)
     out->numbers[9] = shown.number;
     out->numbers[10] = imported.number;
     out->numbers[11] = captable_write(imported.table, out->imported, sizeof out->imported);
+    out->numbers[12] = captable_write(captable_unborn(), out->unborn, sizeof out->unborn);
+    out->numbers[13] = captable_write_older(loaded.table, out->older, sizeof out->older);
+    out->numbers[14] = captable_read(out->after, sizeof out->after).number;
 }
 
 /* Was every call done, and not merely refused twice? Of the test, 1 comes in round one, and 0 and 2 in round two. */

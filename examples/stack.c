@@ -69,6 +69,7 @@ int main(int count, char **words)
         fprintf(stderr, "usage: stack [BYTES]    (64 to %d bytes)\n", ALL);
         return 1;
     }
+    table = captable_unborn();
     table.records[0].status = table.records[1].status = CAPTABLE_ALIVE;
     table.records[0].kind = CAPTABLE_ACTIVE;
     captable_slot_at(&table, 0, 0)->target = 1;

@@ -2,7 +2,7 @@
  * captable.h: the proved capability table for firmware in C and C++.
  *
  * The table is one fixed table of 64 objects with eight capabilities each. Its rules are document 01's,
- * with requests 2.1 to 2.6 of document 02, and every answer is a number of theirs: 0 for done, or why not
+ * with requests 2.1 to 2.7 of document 02, and every answer is a number of theirs: 0 for done, or why not
  * (enum captable_number).
  *
  * Link with libcaptable.a, which `rt staticlib captable` proves and writes. It needs memcpy and memset
@@ -68,21 +68,22 @@ extern "C" {
 
 /* ---- version -------------------------------------------------------------------------------------- */
 
-/* The version of the calls, 0.7.0: the first number times 65,536, the second times 256, and the third.
+/* The version of the calls, 0.8.0: the first number times 65,536, the second times 256, and the third.
  * captable_version gives that of the archive. Compare the two at start. */
-#define CAPTABLE_VERSION 1792
+#define CAPTABLE_VERSION 2048
 
 /* ---- sizes ---------------------------------------------------------------------------------------- */
 
-#define CAPTABLE_OBJECTS 64        /* objects of a table, numbered from 0 */
-#define CAPTABLE_SLOTS 8           /* slots of an object, numbered from 0 */
-#define CAPTABLE_IMAGE_BYTES 1923  /* the length of an image */
-#define CAPTABLE_IMPORT_BYTES 1092 /* the longest import: 64 entities with eight capabilities each */
-#define CAPTABLE_REQUEST_BYTES 22  /* the longest request: an allocate with four pairs */
-#define CAPTABLE_PAIRS 4           /* the most pairs in the list of a send or an allocate */
-#define CAPTABLE_ENTRIES 8         /* the most entries in the list of a test; wk alone needs none */
-#define CAPTABLE_LINKS 63          /* the most links of a chain, numbers in it, and rounds of a test */
-#define CAPTABLE_PRINTED 256       /* the buffer of captable_confine */
+#define CAPTABLE_OBJECTS 64             /* objects of a table, numbered from 0 */
+#define CAPTABLE_SLOTS 8                /* slots of an object, numbered from 0 */
+#define CAPTABLE_IMAGE_BYTES 1987       /* the length of an image of version 2, which captable_write writes */
+#define CAPTABLE_OLDER_IMAGE_BYTES 1923 /* the length of one of version 1, the older form; that of captable_confine */
+#define CAPTABLE_IMPORT_BYTES 1092      /* the longest import: 64 entities with eight capabilities each */
+#define CAPTABLE_REQUEST_BYTES 22       /* the longest request: an allocate with four pairs */
+#define CAPTABLE_PAIRS 4                /* the most pairs in the list of a send or an allocate */
+#define CAPTABLE_ENTRIES 8              /* the most entries in the list of a test; wk alone needs none */
+#define CAPTABLE_LINKS 63               /* the most links of a chain, numbers in it, and rounds of a test */
+#define CAPTABLE_PRINTED 256            /* the buffer of captable_confine */
 
 /* ---- stack ---------------------------------------------------------------------------------------- */
 
@@ -107,10 +108,12 @@ extern "C" {
 #define CAPTABLE_STACK_ACCESS 8328
 #define CAPTABLE_STACK_TEST 8904
 #define CAPTABLE_STACK_CHAIN 10552
-#define CAPTABLE_STACK_READ 11448
+#define CAPTABLE_STACK_READ 11464
 #define CAPTABLE_STACK_IMPORT 7240
-#define CAPTABLE_STACK_WRITE 6264
-#define CAPTABLE_STACK_CONFINE 11528
+#define CAPTABLE_STACK_WRITE 8360
+#define CAPTABLE_STACK_WRITE_OLDER 8360
+#define CAPTABLE_STACK_CONFINE 11544
+#define CAPTABLE_STACK_UNBORN 3112
 #define CAPTABLE_STACK_VERSION 8
 #define CAPTABLE_STACK_MOST 12616
 
@@ -142,9 +145,13 @@ enum captable_code {
 /* The `reply` of a send that asks for no reply slot. */
 #define CAPTABLE_NO_REPLY 8
 
+/* The `maker` of an object that was not made in a run, and of an unborn record. */
+#define CAPTABLE_NO_MAKER 64
+
 /* Every answer of every call, and of the program `confine`. Checks run in number order, among those that
- * apply; whoever asks for a chain asks for a test first, and gets its refusals; the bytes of an import are
- * checked as they come. captable_reason says each in words. */
+ * apply, but for these: whoever asks for a chain asks for a test first, and gets its refusals; an image and the
+ * bytes of an import are checked as captable_read and captable_import say; writing the older form checks 1, 23
+ * and 16 in turn. captable_reason says each in words. */
 enum captable_number {
     CAPTABLE_DONE = 0,
     CAPTABLE_TABLE_UNSOUND = 1,         /* the table is not sound */
@@ -160,15 +167,16 @@ enum captable_number {
     CAPTABLE_LIST_INVALID = 11,         /* test: a list too long, no list, or an entry that is no right over a born non-member */
     CAPTABLE_RIGHT_UNLISTED = 12,       /* test: a member holds a right over a non-member that is not listed; a capability with wk alone needs no entry */
     CAPTABLE_MEMBER_HELD = 13,          /* test: a non-member holds a capability naming a member */
-    CAPTABLE_LENGTH_WRONG = 14,         /* reading: not 1,923 bytes, or the length field says otherwise */
-    CAPTABLE_VERSION_WRONG = 15,        /* reading: the version byte is not 1 */
-    CAPTABLE_BUFFER_SHORT = 16,         /* writing: a buffer below 1,923 bytes */
+    CAPTABLE_LENGTH_WRONG = 14,         /* reading: fewer than three bytes, or not its version's length (1,923 or 1,987), in the slice and in the length field */
+    CAPTABLE_VERSION_WRONG = 15,        /* reading: the version byte is neither 1 nor 2; confine: it is not 1 */
+    CAPTABLE_BUFFER_SHORT = 16,         /* writing: a buffer below 1,987 bytes, or 1,923 for the older form */
     CAPTABLE_INPUT_WRONG = 17,          /* confine: an input of wrong length; captable_confine prints it */
     CAPTABLE_OBJECT_INVALID = 18,       /* chain: the object's number is above 63, unborn or a member */
     CAPTABLE_OUTSIDE_BOUND = 19,        /* chain: the object is outside the bound */
     CAPTABLE_IMPORT_LENGTH_WRONG = 20,  /* import: below 4 bytes, another length field, or entities that end elsewhere */
     CAPTABLE_IMPORT_VERSION_WRONG = 21, /* import: the version byte is not 1 */
-    CAPTABLE_IMPORT_VALUE_WRONG = 22    /* import: a count, a target or rights out of range */
+    CAPTABLE_IMPORT_VALUE_WRONG = 22,   /* import: a count, a target or rights out of range */
+    CAPTABLE_MAKER_RECORDED = 23        /* writing the older form: some maker is not 64, for which it has no place */
 };
 
 /* Why a call was answered with the number, in plain words for a log. Never NULL. */
@@ -221,6 +229,8 @@ static inline const char *captable_reason(uint8_t number)
         return "the import has a wrong version";
     case CAPTABLE_IMPORT_VALUE_WRONG:
         return "a count, a target or rights in the import are out of range";
+    case CAPTABLE_MAKER_RECORDED:
+        return "some maker is not 64, and the older form has no place for it";
     default:
         return "no answer of the table has this number";
     }
@@ -235,15 +245,24 @@ typedef struct captable_capability {
     uint8_t rights;
 } captable_capability;
 
-/* An object's record. `stock` is the set of unborn numbers that it may make objects of, bit n for n. */
+/* An object's record. `stock` is the set of unborn numbers that it may make objects of, bit n for n.
+ *
+ * `maker` says who made it: the number of the object whose allocate did, or CAPTABLE_NO_MAKER, 64, for one that was
+ * not made in a run, as those are that captable_import brings in or that a version 1 image has. An allocate writes
+ * its actor there, and nothing else changes it; a dead object keeps it, and an unborn record has 64. In a sound table
+ * it is 64 or a born number. It is there for service to look at, and is no authority: no check but that one asks for
+ * it. */
 typedef struct captable_record {
     uint8_t status;
     uint8_t kind;
+    uint8_t maker;
     uint32_t word;
     uint64_t stock;
 } captable_record;
 
-/* The table. Slot j of object n is slots[n * 8 + j], see captable_slot. All zero is the wholly unborn table. */
+/* The table. Slot j of object n is slots[n * 8 + j], see captable_slot. A new one begins as captable_unborn() gives
+ * it. A table of zeros is not that one and is not sound: its unborn records have the maker 0, and every call that
+ * takes it answers 1. */
 typedef struct captable_table {
     captable_record records[CAPTABLE_OBJECTS];
     captable_capability slots[CAPTABLE_OBJECTS * CAPTABLE_SLOTS];
@@ -291,6 +310,7 @@ CAPTABLE_ASSERT(capability, sizeof(captable_capability) == 2);
 CAPTABLE_ASSERT(rights, offsetof(captable_capability, rights) == 1);
 CAPTABLE_ASSERT(record, sizeof(captable_record) == 16);
 CAPTABLE_ASSERT(kind, offsetof(captable_record, kind) == 1);
+CAPTABLE_ASSERT(maker, offsetof(captable_record, maker) == 2);
 CAPTABLE_ASSERT(word, offsetof(captable_record, word) == 4);
 CAPTABLE_ASSERT(stock, offsetof(captable_record, stock) == 8);
 CAPTABLE_ASSERT(table, sizeof(captable_table) == 2048);
@@ -327,6 +347,10 @@ static inline captable_capability *captable_slot_at(captable_table *table, size_
 
 /* The version of the archive: CAPTABLE_VERSION, if it is the one that this header belongs to. */
 uint32_t captable_version(void);
+
+/* The wholly unborn table, which is sound: zeros, but for the maker of each record, which is CAPTABLE_NO_MAKER. What
+ * a table begins with before it is filled; a static or cleared one has to be given this first. */
+captable_table captable_unborn(void);
 
 /* 0 for a sound table, 1 for any other. */
 CAPTABLE_ANSWER uint8_t captable_sound(captable_table table);
@@ -394,7 +418,17 @@ CAPTABLE_ANSWER captable_finding captable_test(captable_table table, uint64_t me
 CAPTABLE_ANSWER captable_shown captable_chain(captable_table table, uint64_t members, const uint8_t *list,
                                               size_t length, uint8_t object);
 
-/* Reads an image; on every refusal with the wholly unborn table. */
+/*
+ * Reads an image; on every refusal with the wholly unborn table.
+ *
+ * An image is its length in 2 bytes, the most significant first, the version byte, and the 64 records. Version 2 has
+ * 1,987 bytes, 31 a record with the maker last; version 1, the older form, has 1,923 bytes, 30 a record, and its
+ * objects come with the maker 64 throughout. What is read of version 1 and written by captable_write_older is equal
+ * byte for byte.
+ *
+ * The number is 14 for fewer than three bytes; then 15 for a version byte that is neither 1 nor 2, at any length; then
+ * 14 if the length of that version is not `length` or is not in the length field; then 1.
+ */
 CAPTABLE_ANSWER captable_outcome captable_read(const uint8_t *image, size_t length);
 
 /*
@@ -406,11 +440,11 @@ CAPTABLE_ANSWER captable_outcome captable_read(const uint8_t *image, size_t leng
  * the target and the rights, which add up: 1 Read, 2 Write, 4 Grant, 8 Create, 16 Store. The longest import has
  * CAPTABLE_IMPORT_BYTES bytes.
  *
- * Entities are numbered from 0 as they come, and each becomes the object of its number: alive, active, with word
- * 0 and no stock. Its capabilities go into its slots in their order. Read becomes rd, Write wr, Grant tx, Store
- * rd and wr together, Create nothing; a capability that is left with no right gives an empty slot in its place.
- * All other numbers are unborn, and since they are in no stock, no object can be made in this table. What comes
- * in is sound, and captable_test therefore judges it like any table. Entities that Store links join influence
+ * Entities are numbered from 0 as they come, and each becomes the object of its number: alive, active, with word 0,
+ * no stock and the maker 64. Its capabilities go into its slots in their order. Read becomes rd, Write wr, Grant
+ * tx, Store rd and wr together, Create nothing; a capability that is left with no right gives an empty slot in its
+ * place. All other numbers are unborn, and since they are in no stock, no object can be made in this table. What
+ * comes in is sound, and captable_test therefore judges it like any table. Entities that Store links join influence
  * each other in it.
  *
  * The number is 20 for fewer than four bytes and for a length field that is not `length`, then 21 for a version
@@ -421,14 +455,21 @@ CAPTABLE_ANSWER captable_outcome captable_read(const uint8_t *image, size_t leng
  */
 CAPTABLE_ANSWER captable_outcome captable_import(const uint8_t *bytes, size_t length);
 
-/* Writes the table's image into the first 1,923 bytes of the buffer and touches no byte after them. A
- * refusal leaves every byte. */
+/* Writes the table's image, of version 2, into the first CAPTABLE_IMAGE_BYTES bytes of the buffer and touches no byte
+ * after them. The number is 1, then 16 for a shorter buffer; a refusal leaves every byte. */
 CAPTABLE_ANSWER uint8_t captable_write(captable_table table, uint8_t *buffer, size_t length);
 
+/* Writes the older form, an image of version 1, into the first CAPTABLE_OLDER_IMAGE_BYTES bytes in the same way: for
+ * a rig that reads no other, and for captable_confine. It has no place for makers. The number is 1, then 23 if some
+ * maker is not 64, a dead object's too, then 16. Once an allocate was done, a table goes back no more. */
+CAPTABLE_ANSWER uint8_t captable_write_older(captable_table table, uint8_t *buffer, size_t length);
+
 /*
- * Puts what the program `confine` prints for an input (an image, 8 bytes of members, a count byte, two
- * bytes an entry) at the start of a buffer of CAPTABLE_PRINTED bytes, leaves the rest of it, and says how
- * many bytes that is: at most 191. There is no 0 byte after them. `printed` is never NULL.
+ * Puts what the program `confine` prints for an input (an image of version 1, which has CAPTABLE_OLDER_IMAGE_BYTES
+ * bytes, 8 bytes of members, a count byte, two bytes an entry) at the start of a buffer of CAPTABLE_PRINTED bytes,
+ * leaves the rest of it, and says how many bytes that is: at most 191. There is no 0 byte after them. `printed` is
+ * never NULL. An input of a wrong length is 17; then any other version byte than 1 is 15, and the rest as in
+ * captable_read and captable_test.
  */
 CAPTABLE_ANSWER size_t captable_confine(const uint8_t *input, size_t length, uint8_t *printed);
 
@@ -537,9 +578,9 @@ static inline size_t captable_put_send(uint8_t *out, uint8_t actor, uint8_t t, u
     return at + 1;
 }
 
-/* n, of the actor's stock, becomes alive with the kind, word 0, the part as its stock and the copied pairs;
- * the actor's slot i gets all rights over it. Pairs apply as in a send: the new object's slots are empty, but for
- * those where a filled copy lands. */
+/* n, of the actor's stock, becomes alive with the kind, word 0, the part as its stock, the actor as its maker and the
+ * copied pairs; the actor's slot i gets all rights over it. Pairs apply as in a send: the new object's slots are
+ * empty, but for those where a filled copy lands. */
 static inline size_t captable_put_allocate(uint8_t *out, uint8_t actor, uint8_t n, uint8_t kind, uint64_t part, uint8_t i,
                                            const uint8_t *pairs, uint8_t count)
 {
@@ -554,8 +595,8 @@ static inline size_t captable_put_allocate(uint8_t *out, uint8_t actor, uint8_t 
     return at + captable_put_pairs(out + at, pairs, count);
 }
 
-/* The target becomes dead: it loses its word and slots and keeps its kind, and its stock joins the actor's. Needs
- * wr. */
+/* The target becomes dead: it loses its word and slots and keeps its kind and its maker, and its stock joins the
+ * actor's. Needs wr. */
 static inline size_t captable_put_destroy(uint8_t *out, uint8_t actor, uint8_t t)
 {
     return captable_put_slots(out, CAPTABLE_DESTROY, actor, t);

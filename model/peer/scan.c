@@ -1,5 +1,5 @@
-/* The soundness of a table, clause by clause from document 01, as one would write it in C. It ends at
-   the first offence. */
+/* The soundness of a table, clause by clause from document 01 and, for makers, from document 02, 2.7, as one
+   would write it in C. It ends at the first offence. */
 
 #include "../../include/captable.h"
 
@@ -29,6 +29,11 @@ static int slots_sound(const captable_table *table, int n) {
     return 1;
 }
 
+/* A maker is 64 or a born number, and for an unborn record 64 alone. */
+static int maker_sound(const captable_table *table, const captable_record *record) {
+    return record->maker == CAPTABLE_NO_MAKER || (record->status != CAPTABLE_UNBORN && born(table, record->maker));
+}
+
 /* 0 for a sound table, 1 for any other. */
 uint8_t peer_scan(const captable_table *table) {
     uint64_t unborn = 0, stocked = 0;
@@ -37,7 +42,7 @@ uint8_t peer_scan(const captable_table *table) {
             unborn |= UINT64_C(1) << n;
     for (int n = 0; n < 64; n++) {
         const captable_record *record = &table->records[n];
-        if (!record_sound(record))
+        if (!record_sound(record) || !maker_sound(table, record))
             return 1;
         if ((record->stock & stocked) != 0 || (record->stock & ~unborn) != 0)
             return 1;

@@ -1,27 +1,34 @@
 //! The program `confine`: from the bytes of its input to the text that it prints.
-//! The input is an image, 8 bytes of members, a count byte and 2 bytes for each entry.
+//! The input is an image of version 1, 8 bytes of members, a count byte and 2 bytes for each entry.
 
 use crate::confinement::confinement_test;
-use crate::image::{big_endian, read, IMAGE_LENGTH};
+use crate::image::{big_endian, read, Version, VERSION_AT};
 use crate::refusal::Refusal;
 use crate::set;
 use crate::wire::decode_list;
 
-/// Where the count byte stands: after the image and the members.
-const COUNT_AT: usize = IMAGE_LENGTH + 8;
+/// Where the members begin: after the image.
+const MEMBERS_AT: usize = Version::One.image_length();
+/// Where the count byte stands: after the members.
+const COUNT_AT: usize = MEMBERS_AT + 8;
 /// Where the entries begin.
 const ENTRIES_AT: usize = COUNT_AT + 1;
 
-/// The text printed for an input. Every line ends with a newline.
+/// The text printed for an input. Every line ends with a newline. Checks 17, then 15 at any version but
+/// 1, then what reading and the test refuse.
 pub fn confine(input: &[u8]) -> String {
     if !length_is_right(input) {
         return refused(Refusal::InputLength.number());
     }
-    let (number, table) = read(&input[..IMAGE_LENGTH]);
+    let image = &input[..MEMBERS_AT];
+    if image[VERSION_AT] != Version::One.number() {
+        return refused(Refusal::ImageVersion.number());
+    }
+    let (number, table) = read(image);
     if number != 0 {
         return refused(number);
     }
-    let members = big_endian(&input[IMAGE_LENGTH..COUNT_AT]);
+    let members = big_endian(&input[MEMBERS_AT..COUNT_AT]);
     let list = decode_list(&input[ENTRIES_AT..]);
     let tested = confinement_test(&table, members, &list);
     match tested.number {

@@ -12,8 +12,8 @@
 //! | The confinement test | `confinement`: checks, stand-in, bound, all that the test brings back |
 //! | Two runs | `runs`: a run, the clean objects along it, their requests and replies |
 //! | Why something is turned down | `refusal`: numbers; each check is where it refuses |
-//! | The stored image | `image`: reading, writing; `confine`: the program |
-//! | Table K and twelve examples | `table`: `Table::k`; `tests/examples.rs`, example 2 as 2.3 amends it |
+//! | The stored image | `image`: reading and writing, as 2.7 amends them; `confine`: the program |
+//! | Table K and twelve examples | `table`: `Table::k`; `tests/examples.rs`, example 2 as 2.3 amends it, example 6 with the maker of 2.7 |
 //! | What every contract owes | none: it is about proofs |
 //! | Where earlier tables went astray | `tests/sentences.rs`, a test each |
 //! | Forms for parts of the code | none: it is about the proved code |
@@ -28,6 +28,7 @@
 //! | 2.4 An empty copy keeps the destination | `step`: `landed`, where every copy lands |
 //! | 2.5 Sixteen rows for weakening | none: no result changes. The rows are compared with `step`, which keeps to the sentences: `weaken`, `Code::needs` |
 //! | 2.6 How many rounds | `rounds`: what is there after each round; `confinement` reports how many they are |
+//! | 2.7 Record who made it | `table`: the maker, a clause of soundness; `step`: who writes and keeps it; `image`: both versions; `confine`: version 1 alone |
 //!
 //! Beside these, `links` leads to the bound a second way, as the proved code has it too: what can be
 //! reached from the holder of the list, link by link, and in how many rounds. Of requests and lists as bytes document 01 says no

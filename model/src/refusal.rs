@@ -1,6 +1,6 @@
-//! The causes for which a request, a test, an image, an input, the question for a chain or an import is
-//! turned down. Each has the number of document 01, from 18 on that of document 02; the number 0 stands
-//! for done or accepted.
+//! The causes for which a request, a test, an image, an input, the question for a chain, an import or the
+//! older form of an image is turned down. Each has the number of document 01, from 18 on that of document
+//! 02; the number 0 stands for done or accepted.
 
 /// A cause of refusal. The discriminant is the number that is given to the caller.
 #[derive(Clone, Copy, Debug, PartialEq, Eq)]
@@ -28,6 +28,8 @@ pub enum Refusal {
     ImportLength = 20,
     ImportVersion = 21,
     ImportValue = 22,
+    /// Some maker is not 64, which the older form cannot hold.
+    MakerRecorded = 23,
 }
 
 impl Refusal {

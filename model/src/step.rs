@@ -1,11 +1,12 @@
 //! The eight requests: what each needs, what refuses it and what it does.
 //! A step exists in two forms, table in and table out, and on a table lent to be changed.
-//! A copy that comes out empty changes no slot, as 2.4 of document 02 has it.
+//! A copy that comes out empty changes no slot, as 2.4 of document 02 has it; an allocate records who made
+//! the object, as 2.7 has it.
 
 use crate::refusal::{reply_number, Refusal};
 use crate::set;
 use crate::table::{Capability, Record, Slots, Table};
-use crate::table::{ACTIVE, ALIVE, ALL_RIGHTS, DEAD, OBJECTS, RD, SLOTS, TX, WK, WR};
+use crate::table::{ACTIVE, ALIVE, ALL_RIGHTS, DEAD, NO_SLOTS, OBJECTS, RD, SLOTS, TX, WK, WR};
 
 /// The largest number of pairs in a list.
 pub const MAX_PAIRS: usize = 4;
@@ -352,8 +353,10 @@ fn apply_allocate(table: &mut Table, request: &Request, before: &Record) {
         let mut made = Record {
             status: ALIVE,
             kind: *kind,
+            word: 0,
             stock: *part,
-            ..Record::UNBORN
+            slots: NO_SLOTS,
+            maker: *actor,
         };
         copy_pairs(&before.slots, list, &mut made.slots);
         *table.record_mut(*n) = made;
@@ -363,13 +366,16 @@ fn apply_allocate(table: &mut Table, request: &Request, before: &Record) {
     }
 }
 
-/// The effect of destroy: only the kind of the target stays, and its stock joins the actor's.
+/// The effect of destroy: kind and maker of the target stay, and its stock joins the actor's.
 fn apply_destroy(table: &mut Table, actor: u8, target: u8) {
     let destroyed = *table.record(target);
     *table.record_mut(target) = Record {
         status: DEAD,
         kind: destroyed.kind,
-        ..Record::UNBORN
+        word: 0,
+        stock: 0,
+        slots: NO_SLOTS,
+        maker: destroyed.maker,
     };
     table.record_mut(actor).stock |= destroyed.stock;
 }

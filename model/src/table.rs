@@ -15,6 +15,9 @@ pub const ALIVE: u8 = 1;
 /// Status of an object that was destroyed; its number is never used again.
 pub const DEAD: u8 = 2;
 
+/// The maker of what was not made in a run, and of an unborn number: a number that no object has.
+pub const NO_MAKER: u8 = 64;
+
 /// Kind of an object that makes no requests.
 pub const PASSIVE: u8 = 0;
 /// Kind of an object that makes requests and can be sent to.
@@ -60,6 +63,9 @@ impl Capability {
 /// The eight slots of a record.
 pub type Slots = [Capability; SLOTS];
 
+/// Eight empty slots.
+pub const NO_SLOTS: Slots = [Capability::EMPTY; SLOTS];
+
 /// One record of a table.
 #[derive(Clone, Copy, Debug, PartialEq, Eq)]
 pub struct Record {
@@ -68,6 +74,8 @@ pub struct Record {
     pub word: u32,
     pub stock: u64,
     pub slots: Slots,
+    /// The number of the object that made it, or `NO_MAKER`.
+    pub maker: u8,
 }
 
 impl Record {
@@ -77,7 +85,8 @@ impl Record {
         kind: PASSIVE,
         word: 0,
         stock: 0,
-        slots: [Capability::EMPTY; SLOTS],
+        slots: NO_SLOTS,
+        maker: NO_MAKER,
     };
 
     pub fn is_alive(&self) -> bool {
@@ -104,7 +113,7 @@ impl Record {
 
     /// Whether word, stock and slots hold nothing.
     fn holds_nothing(&self) -> bool {
-        self.word == 0 && self.stock == 0 && self.slots.iter().all(|slot| slot.is_empty())
+        self.word == 0 && self.stock == 0 && self.slots == NO_SLOTS
     }
 }
 
@@ -163,12 +172,18 @@ impl Table {
         set::of((0..64).filter(|&n| self.is_born(n)))
     }
 
-    /// Soundness: the four clauses of document 01, one function each.
+    /// Whether some maker is not 64.
+    pub fn has_makers(&self) -> bool {
+        self.records.iter().any(|record| record.maker != NO_MAKER)
+    }
+
+    /// Soundness: the four clauses of document 01 and the one of 2.7, one function each.
     pub fn is_sound(&self) -> bool {
         self.statuses_and_kinds_are_listed()
             && self.only_the_alive_hold_anything()
             && self.filled_slots_are_valid()
             && self.stocks_are_valid()
+            && self.makers_are_valid()
     }
 
     fn statuses_and_kinds_are_listed(&self) -> bool {
@@ -203,5 +218,13 @@ impl Table {
             in_earlier_stocks |= record.stock;
         }
         set::numbers(in_earlier_stocks).all(|n| self.record(n).status == UNBORN)
+    }
+
+    /// A maker is 64 or a born number, and 64 alone for an unborn record.
+    fn makers_are_valid(&self) -> bool {
+        self.records.iter().all(|record| match record.status {
+            UNBORN => record.maker == NO_MAKER,
+            _ => record.maker == NO_MAKER || self.is_born(record.maker),
+        })
     }
 }

@@ -3,7 +3,8 @@
 //! ends the walk.
 
 use crate::refusal::{reply_number, Refusal};
-use crate::table::{Capability, Record, Table, ACTIVE, ALIVE, OBJECTS, RD, SLOTS, TX, WR};
+use crate::table::{Capability, Record, Table};
+use crate::table::{ACTIVE, ALIVE, NO_MAKER, NO_SLOTS, OBJECTS, RD, SLOTS, TX, WR};
 
 /// The rights of source document 001, as they add up in the bytes.
 pub const READ: u8 = 1;
@@ -91,7 +92,10 @@ impl Walk<'_> {
         let mut record = Record {
             status: ALIVE,
             kind: ACTIVE,
-            ..Record::UNBORN
+            word: 0,
+            stock: 0,
+            slots: NO_SLOTS,
+            maker: NO_MAKER,
         };
         for slot in &mut record.slots[..count] {
             *slot = self.capability()?;

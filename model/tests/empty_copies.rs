@@ -1,12 +1,14 @@
 //! Document 02, 2.4, sentence by sentence, each on a small table.
 
+mod done;
 mod held;
 
+use done::done;
 use held::table_with;
 use yavrinks_model::set;
-use yavrinks_model::step::{landed, step, step_in_place, Pair, Request, NO_REPLY};
+use yavrinks_model::step::{landed, Pair, Request, NO_REPLY};
 use yavrinks_model::table::{Capability, Record, Table};
-use yavrinks_model::table::{ACTIVE, ALIVE, ALL_RIGHTS, DEAD, RD, SLOTS, TX, WK, WR};
+use yavrinks_model::table::{ACTIVE, ALIVE, ALL_RIGHTS, DEAD, NO_MAKER, RD, SLOTS, TX, WK, WR};
 
 const ACTOR: u8 = 10;
 const TARGET: u8 = 20;
@@ -39,16 +41,6 @@ fn table_of(rights: u8) -> Table {
 
 fn slot_mut(table: &mut Table, n: u8, slot: u8) -> &mut Capability {
     &mut table.record_mut(n).slots[usize::from(slot)]
-}
-
-/// The table after a request that is done, which both forms of the step give.
-fn done(table: &Table, request: &Request) -> Table {
-    let (reply, after) = step(table, request);
-    assert_eq!(reply, 0, "{request:?}");
-    let mut lent = table.clone();
-    assert_eq!(step_in_place(&mut lent, request), 0);
-    assert_eq!(lent, after);
-    after
 }
 
 /// Asserts that after a request the table is as before but for the given slots.
@@ -254,7 +246,7 @@ fn expect_made(i: u8, list: &[Pair], slots: &[(u8, Capability)]) {
     };
     let mut expected = table.clone();
     let made = expected.record_mut(UNMADE);
-    (made.status, made.kind) = (ALIVE, ACTIVE);
+    (made.status, made.kind, made.maker) = (ALIVE, ACTIVE, ACTOR);
     for &(slot, content) in slots {
         made.slots[usize::from(slot)] = content;
     }
@@ -328,6 +320,7 @@ fn a_destroyed_object_keeps_no_slot() {
         word: 0,
         stock: 0,
         slots: [Capability::EMPTY; SLOTS],
+        maker: NO_MAKER,
     };
     assert_eq!(done(&table, &request), expected);
 }

@@ -1,10 +1,13 @@
-//! The twelve examples of document 01, each asserted in full; example 2 as 2.3 of document 02 amends it.
-//! All start from table K.
+//! The twelve examples of document 01, each asserted in full; example 2 as 2.3 of document 02 amends it,
+//! example 6 with the maker of 2.7, example 12 in both versions. All start from table K.
 
+mod input;
+
+use input::input_of;
 use yavrinks_model::access::potential_access;
 use yavrinks_model::confine::confine;
 use yavrinks_model::confinement::{confinement_test, Entry};
-use yavrinks_model::image::{encode, read, IMAGE_LENGTH};
+use yavrinks_model::image::{encode, read, Version};
 use yavrinks_model::set;
 use yavrinks_model::step::{step, step_in_place, weaken, Request};
 use yavrinks_model::table::{Capability, Record, Table};
@@ -12,11 +15,8 @@ use yavrinks_model::table::{ACTIVE, ALIVE, ALL_RIGHTS, RD, TX, WK, WR};
 
 /// What `confine` prints for a table, members and a list.
 fn printed(table: &Table, members: &[u8], list: &[Entry]) -> String {
-    let mut input = encode(table);
-    input.extend(set::of(members).to_be_bytes());
-    input.push(list.len() as u8);
-    input.extend(list.iter().flat_map(|&(target, rights)| [target, rights]));
-    confine(&input)
+    let image = encode(Version::One, table);
+    confine(&input_of(&image, set::of(members), list))
 }
 
 /// Asserts number and bound of a test on table K after a change, and the text of the program.
@@ -124,6 +124,7 @@ fn example_06_allocate_is_done() {
     after.records[10].status = ALIVE;
     after.records[10].kind = ACTIVE;
     after.records[10].stock = set::of([11]);
+    after.records[10].maker = 5;
     after.records[5].stock = 0;
     after.records[5].slots[7] = Capability::new(10, ALL_RIGHTS);
     assert_step(&Table::k(), &allocate(10), 0, &after);
@@ -176,11 +177,13 @@ fn example_11_potential_access() {
 
 #[test]
 fn example_12_image_length_and_version() {
-    let image = encode(&Table::k());
-    assert_eq!(image.len(), IMAGE_LENGTH);
-    assert_eq!(read(&image), (0, Table::k()));
-    assert_eq!(read(&image[..1922]), (14, Table::unborn()));
-    let mut other_version = image;
-    other_version[2] = 0;
-    assert_eq!(read(&other_version), (15, Table::unborn()));
+    for (version, length) in [(Version::One, 1923), (Version::Two, 1987)] {
+        let image = encode(version, &Table::k());
+        assert_eq!(image.len(), length);
+        assert_eq!(read(&image), (0, Table::k()));
+        assert_eq!(read(&image[..1922]), (14, Table::unborn()));
+        let mut other_version = image;
+        other_version[2] = 0;
+        assert_eq!(read(&other_version), (15, Table::unborn()));
+    }
 }

@@ -1,14 +1,16 @@
 //! Document 02, 2.6, sentence by sentence, each on a small table. All numbers of rounds are worked by hand.
 
 mod held;
+mod input;
 mod refused;
 
 use held::{table_with, Held};
+use input::input_of;
 use refused::refused_tests;
 use yavrinks_model::chain::chain;
 use yavrinks_model::confine::confine;
 use yavrinks_model::confinement::{confinement_test, Entry, Tested};
-use yavrinks_model::image::encode;
+use yavrinks_model::image::{encode, Version};
 use yavrinks_model::rounds::rounds;
 use yavrinks_model::set;
 use yavrinks_model::table::{Capability, Table};
@@ -287,10 +289,8 @@ fn confine_prints_the_bound_and_no_rounds() {
         (&[(1, WK)], "accepted\n"),
         (&[(1, 0)], "refused 11\n"),
     ] {
-        let mut input = encode(&table_of(&held, list));
-        input.extend(set::single(MEMBER).to_be_bytes());
-        input.push(list.len() as u8);
-        input.extend(list.iter().flat_map(|&(target, rights)| [target, rights]));
+        let image = encode(Version::One, &table_of(&held, list));
+        let input = input_of(&image, set::single(MEMBER), list);
         assert_eq!(confine(&input), text);
     }
 }

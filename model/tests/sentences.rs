@@ -1,8 +1,8 @@
 //! Sentences of document 01 that its examples leave out, in its order, each on a small table. Those on empty
-//! copies are as 2.4 of document 02 amends them.
+//! copies are as 2.4 of document 02 amends them, those on images as 2.7 does.
 
 use yavrinks_model::confinement::{confinement_test, Tested};
-use yavrinks_model::image::{encode, read, write, IMAGE_LENGTH};
+use yavrinks_model::image::{encode, read, write, Version};
 use yavrinks_model::links::Links;
 use yavrinks_model::runs::{clean_at_start, clean_part, run};
 use yavrinks_model::set;
@@ -201,25 +201,29 @@ fn the_empty_run_gives_the_start_table() {
 
 #[test]
 fn short_buffers_are_refused_and_left() {
-    for length in [0, 1, 1922] {
-        let mut buffer = vec![0x5A; length];
-        assert_eq!(write(&Table::k(), &mut buffer), 16);
-        assert!(buffer.iter().all(|&byte| byte == 0x5A));
+    for version in Version::ALL {
+        for length in [0, 1, version.image_length() - 1] {
+            let mut buffer = vec![0x5A; length];
+            assert_eq!(write(version, &Table::k(), &mut buffer), 16);
+            assert!(buffer.iter().all(|&byte| byte == 0x5A));
+        }
     }
 }
 
 #[test]
 fn single_bytes_of_an_image_matter() {
-    let image = encode(&Table::k());
-    for place in 0..IMAGE_LENGTH {
-        let mut other = image.clone();
-        other[place] ^= 0x80;
-        let (number, table) = read(&other);
-        match (place, number) {
-            (0 | 1, _) => assert_eq!(number, 14),
-            (2, _) => assert_eq!(number, 15),
-            (_, 0) => assert_eq!(encode(&table), other),
-            _ => assert_eq!(number, 1),
+    for version in Version::ALL {
+        let image = encode(version, &Table::k());
+        for place in 0..image.len() {
+            let mut other = image.clone();
+            other[place] ^= 0x80;
+            let (number, table) = read(&other);
+            match (place, number) {
+                (0 | 1, _) => assert_eq!(number, 14),
+                (2, _) => assert_eq!(number, 15),
+                (_, 0) => assert_eq!(encode(version, &table), other),
+                _ => assert_eq!(number, 1),
+            }
         }
     }
 }

@@ -214,6 +214,7 @@ fn entities_become_alive_and_active_with_word_0_and_no_stock() {
     for record in &table.records[..2] {
         assert_eq!((record.status, record.kind), (1, 1));
         assert_eq!((record.word, record.stock), (0, 0));
+        assert_eq!(record.maker, 64);
     }
     assert!(table.records[2..].iter().all(|r| *r == Record::UNBORN));
     assert!(table.is_sound());

@@ -1,5 +1,5 @@
-//! The test vectors in `vectors/`: steps, potential access, tests, inputs of `confine`, chains, imports and
-//! rounds.
+//! The test vectors in `vectors/`: steps, potential access, tests, inputs of `confine`, chains, imports, rounds
+//! and images.
 //! Every line of every file is compared in full. Where a later request amends a line of the base or of an
 //! earlier request, the line is named here, and what it says now is worked in another way.
 
@@ -9,11 +9,12 @@ use std::fs;
 use std::path::PathBuf;
 
 use lines::{byte, bytes, field, hexadecimal, index, number_set, pairs, table};
-use lines::{Json, StepLine, TestLine};
+use lines::{ImageLine, Json, StepLine, TestLine};
 use yavrinks_model::access::{potential_access, Access};
 use yavrinks_model::chain::chain;
 use yavrinks_model::confine::confine;
 use yavrinks_model::confinement::{confinement_test, Tested};
+use yavrinks_model::image::{read, write};
 use yavrinks_model::set;
 use yavrinks_model::step::{step, step_in_place, Request};
 use yavrinks_model::table::{Capability, Table, WK};
@@ -31,19 +32,20 @@ fn values(file: &str, count: usize) -> Vec<Json> {
     values
 }
 
-/// Compares a file of steps, in both forms of the step, but for the lines that are amended: of these it
-/// gives number and content.
-fn expect_steps(file: &str, count: usize, amended: &[usize]) -> Vec<(usize, StepLine)> {
-    let mut left = Vec::new();
+/// Compares a file of steps, in both forms of the step; the amended lines with what they say now.
+fn expect_steps(file: &str, count: usize, amended: &[usize]) {
+    let mut left = amended.iter();
     for (number, value) in (1..).zip(values(file, count)) {
         let line = StepLine::of(&value);
+        let place = format!("{file}, line {number}");
         if amended.contains(&number) {
-            left.push((number, line));
+            assert_eq!(left.next(), Some(&number), "{place}");
+            expect_step(&line, &amended_answer(&line), &place);
         } else {
-            expect_step(&line, &line.answer, &format!("{file}, line {number}"));
+            expect_step(&line, &line.answer, &place);
         }
     }
-    left
+    assert_eq!(left.next(), None, "{file}");
 }
 
 fn expect_step(line: &StepLine, answer: &(u8, Table), place: &str) {
@@ -58,47 +60,69 @@ fn expect_step(line: &StepLine, answer: &(u8, Table), place: &str) {
 const AMENDED_BY_2_4: [usize; 1] = [105];
 const AMENDED_BY_2_4_IN_2_3: [usize; 1] = [83];
 
-/// What an amended line says now: the reply as it was, and the table too but for the slot that was emptied,
-/// which keeps what it held.
+/// The lines of the base's steps that 2.7 amends, then those of the steps of 2.3 and, under the same numbers,
+/// of 2.4. Each is an allocate that is done.
+const AMENDED_BY_2_7: [usize; 25] = [
+    3, 4, 9, 32, 40, 43, 48, 50, 52, 57, 58, 67, 71, 101, 102, 103, 109, 110, 111, 114, 116, 122,
+    123, 128, 142,
+];
+const AMENDED_BY_2_7_IN_2_3: [usize; 11] = [3, 4, 9, 32, 40, 43, 48, 50, 52, 56, 57];
+
+/// The lines of two amendments together, in order.
+fn both(one: &[usize], other: &[usize]) -> Vec<usize> {
+    let mut lines = [one, other].concat();
+    lines.sort_unstable();
+    lines
+}
+
+/// What an amended line says now. It was answered 0, and still is.
 fn amended_answer(line: &StepLine) -> (u8, Table) {
-    let Request::Store { actor, t, i, j } = line.request else {
-        panic!("a store was expected: {:?}", line.request);
-    };
-    let own = line.table.record(actor).slots;
-    assert!(own[usize::from(i)].is_empty());
-    let target = own[usize::from(t)].target;
-    let held = line.table.record(target).slots[usize::from(j)];
     let (reply, mut after) = line.answer.clone();
-    let slot = &mut after.record_mut(target).slots[usize::from(j)];
-    assert!(slot.is_empty() && !held.is_empty());
-    *slot = held;
+    assert_eq!(reply, 0);
+    match line.request {
+        Request::Store { actor, t, i, j } => {
+            keep_slot(&line.table, &mut after, [actor, t, i, j]);
+            assert_eq!(after, line.table);
+        }
+        Request::Allocate { actor, n, .. } => {
+            assert_eq!(after.record(n).maker, 64);
+            after.record_mut(n).maker = actor;
+        }
+        _ => panic!("no request that is amended: {:?}", line.request),
+    }
     (reply, after)
 }
 
-/// Compares a file of steps; the amended lines with what they say now.
-fn expect_amended_steps(file: &str, count: usize, amended: &[usize]) {
-    let left = expect_steps(file, count, amended);
-    assert_eq!(left.len(), amended.len(), "{file}");
-    for (number, line) in left {
-        let answer = amended_answer(&line);
-        assert_eq!(answer, (0, line.table.clone()), "{file}, line {number}");
-        expect_step(&line, &answer, &format!("{file}, line {number}"));
-    }
+/// 2.4: the slot that a store emptied keeps what it held.
+fn keep_slot(before: &Table, after: &mut Table, [actor, t, i, j]: [u8; 4]) {
+    let own = before.record(actor).slots;
+    assert!(own[usize::from(i)].is_empty());
+    let target = own[usize::from(t)].target;
+    let held = before.record(target).slots[usize::from(j)];
+    let slot = &mut after.record_mut(target).slots[usize::from(j)];
+    assert!(slot.is_empty() && !held.is_empty());
+    *slot = held;
 }
 
 #[test]
 fn steps() {
-    expect_amended_steps("steps.jsonl", 360, &AMENDED_BY_2_4);
+    expect_steps("steps.jsonl", 360, &both(&AMENDED_BY_2_4, &AMENDED_BY_2_7));
 }
 
 #[test]
 fn steps_of_2_3() {
-    expect_amended_steps("2.3/steps.jsonl", 160, &AMENDED_BY_2_4_IN_2_3);
+    let amended = both(&AMENDED_BY_2_4_IN_2_3, &AMENDED_BY_2_7_IN_2_3);
+    expect_steps("2.3/steps.jsonl", 160, &amended);
 }
 
 #[test]
 fn steps_of_2_4() {
-    expect_steps("2.4/steps.jsonl", 160, &[]);
+    expect_steps("2.4/steps.jsonl", 160, &AMENDED_BY_2_7_IN_2_3);
+}
+
+#[test]
+fn steps_of_2_7() {
+    expect_steps("2.7/steps.jsonl", 160, &[]);
 }
 
 #[test]
@@ -181,6 +205,11 @@ fn tests_of_2_4() {
 }
 
 #[test]
+fn tests_of_2_7() {
+    expect_tests("2.7/tests.jsonl", 80, &[]);
+}
+
+#[test]
 fn confine_cases() {
     let folder = vectors().join("confine");
     let mut count = 0;
@@ -227,5 +256,26 @@ fn rounds() {
         let line = TestLine::of(&value);
         let rounds = tested(&line).rounds;
         assert_eq!(Some(rounds), line.rounds, "{file}, line {number}");
+    }
+}
+
+#[test]
+fn images() {
+    for (number, value) in (1..).zip(values("2.7/images.jsonl", 48)) {
+        match ImageLine::of(&value) {
+            ImageLine::Read { bytes, answer } => {
+                assert_eq!(read(&bytes), answer, "line {number}");
+            }
+            ImageLine::Write {
+                version,
+                table,
+                before,
+                answer,
+            } => {
+                let mut buffer = before;
+                let reply = write(version, &table, &mut buffer);
+                assert_eq!((reply, buffer), answer, "line {number}");
+            }
+        }
     }
 }

@@ -7,7 +7,7 @@ use lib.ListN.{getD, replicate}
 use Rattle.mask.specs.Sets.{has, bits}
 use Rattle.table.specs.declared.Record.{Record}
 use Rattle.table.specs.declared.Table.{Table}
-use Rattle.table.specs.Cells.{isBorn, unbornRecord}
+use Rattle.table.specs.Cells.{isBorn, noRecord}
 use Rattle.table.specs.Soundness.{sound}
 use Rattle.table.specs.Lists.{tabulate}
 use Rattle.access.specs.declared.AccessReply.{AccessReply}
@@ -22,7 +22,7 @@ accessNumber TableUnsound = 1
 
 -- the born numbers outside a set
 unfoldable pub bornOutside : List Record → ℕ → ℕ
-bornOutside records set = bits 64 (λ n. isBorn (getD records n unbornRecord) && not (has n set))
+bornOutside records set = bits 64 (λ n. isBorn (getD records n noRecord) && not (has n set))
 
 unfoldable pub accessOf : Table → Access
 accessOf t = elim (sound t) [

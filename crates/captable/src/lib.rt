@@ -2,6 +2,7 @@
 // pointer, then its length) or a struct of document 01's fields. The step has its table lent; the other calls take the table by
 // value, so that nothing can change it between their checks and their answer. Every answer is one of document 01's numbers, or from 18 on of
 // document 02's; 0 is done.
+use image::Version;
 use table::Table;
 ghost use mathlib.Core.Path.{_≡_};
 ghost use mathlib.Core.List.{_++_};
@@ -11,6 +12,8 @@ ghost use Rattle.steps.specs.Steps.{stepOf};
 ghost use Rattle.access.specs.Answers.{accessOf};
 ghost use Rattle.confinement.specs.Tests.{testOf};
 ghost use Rattle.chains.specs.Answers.{chainOf};
+ghost use Rattle.table.specs.Cells.{unbornTable};
+ghost use Rattle.image.specs.declared.Version.the-variants.{One, Two};
 ghost use Rattle.image.specs.Images.{readOf};
 ghost use Rattle.take_grant.specs.Imports.{importOf};
 ghost use Rattle.image_out.specs.Written.{writeNumber, writeRefusal, writtenOf};
@@ -55,7 +58,15 @@ pub struct ShownChain {
 pub extern "C" fn captable_version() -> u32
     ensures { λ r. ⌜ r ≡ version ⌝ }
 {
-    1792
+    2048
+}
+
+// The wholly unborn table: every record unborn, with the maker 64. A table of zeros is not it.
+#[no_mangle]
+pub extern "C" fn captable_unborn() -> Table
+    ensures { λ r. ⌜ r ≡ unbornTable ⌝ }
+{
+    table::unborn_table()
 }
 
 // 0 for a sound table, 1 for any other.
@@ -160,7 +171,7 @@ pub extern "C" fn captable_chain(table: Table, members: u64, list: &[u8], object
     }
 }
 
-// Reads an image; on every refusal with the wholly unborn table.
+// Reads an image of either version; on every refusal with the wholly unborn table.
 #[no_mangle]
 pub extern "C" fn captable_read(image: &[u8]) -> Outcome
     ensures { λ r. ⌜ r ≡ loaded (readOf (now (image .entry))) ⌝ }
@@ -190,13 +201,23 @@ pub extern "C" fn captable_import(bytes: &[u8]) -> Outcome
     }
 }
 
-// Writes a table's image into the first 1,923 bytes of a buffer; a refusal leaves every byte.
+// Writes a table's image of version 2 into the first 1,987 bytes of a buffer; a refusal leaves every byte.
 #[no_mangle]
 pub extern "C" fn captable_write(table: Table, buffer: &mut [u8]) -> u8
-    ensures number { λ r. ⌜ r ≡ writeNumber (writeRefusal table (now (buffer .entry))) ⌝ }
-    ensures left { λ _. ⌜ now (buffer .exit) ≡ writtenOf table (now (buffer .entry)) ⌝ }
+    ensures number { λ r. ⌜ r ≡ writeNumber (writeRefusal Two table (now (buffer .entry))) ⌝ }
+    ensures left { λ _. ⌜ now (buffer .exit) ≡ writtenOf Two table (now (buffer .entry)) ⌝ }
 {
-    let reply = image_out::write(table, buffer);
+    let reply = image_out::write(table, buffer, Version::Two);
+    numbers::of_write(reply)
+}
+
+// The older form: an image of version 1 in the first 1,923 bytes. It has no place for a maker, so 23 where some maker is not 64.
+#[no_mangle]
+pub extern "C" fn captable_write_older(table: Table, buffer: &mut [u8]) -> u8
+    ensures number { λ r. ⌜ r ≡ writeNumber (writeRefusal One table (now (buffer .entry))) ⌝ }
+    ensures left { λ _. ⌜ now (buffer .exit) ≡ writtenOf One table (now (buffer .entry)) ⌝ }
+{
+    let reply = image_out::write(table, buffer, Version::One);
     numbers::of_write(reply)
 }
 

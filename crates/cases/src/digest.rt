@@ -53,14 +53,20 @@ fn with_slots(h: u32, slots: [Capability; 512], n: usize) -> u32 {
     all
 }
 
-// Record by record, each with its slots, as an image has them.
+// The digest with object n: its record, its slots and its maker, in the order of a version 2 image.
+fn with_object(h: u32, r: Record, slots: [Capability; 512], n: usize) -> u32 {
+    let held = with_slots(with_record(h, r), slots, n);
+    with_byte(held, r.maker)
+}
+
+// Record by record.
 pub fn of_table(t: Table) -> u32 {
     let records = t.records;
     let slots = t.slots;
     let mut all = START;
     let mut n: usize = 0;
     while n < 64 {
-        all = with_slots(with_record(all, records[n]), slots, n);
+        all = with_object(all, records[n], slots, n);
         n = n + 1;
     }
     all

@@ -43,6 +43,7 @@ fn record(s: &[u8], at: u16) -> Record {
     Record {
         status: byte(s, at),
         kind: byte(s, on(at, 1)),
+        maker: byte(s, on(at, 30)),
         word: word(s, on(at, 2)),
         stock: set(s, on(at, 6)),
     }
@@ -52,6 +53,7 @@ fn records(s: &[u8]) -> [Record; 64] {
     let nobody = Record {
         status: 0,
         kind: 0,
+        maker: 64,
         word: 0,
         stock: 0,
     };
@@ -60,13 +62,13 @@ fn records(s: &[u8]) -> [Record; 64] {
     let mut at: u16 = 0;
     while n < 64 {
         all[n] = record(s, at);
-        at = on(at, 30);
+        at = on(at, 31);
         n = n + 1;
     }
     all
 }
 
-// Slot j of object n stands 14 + 2 * j bytes into the 30 of its record.
+// Slot j of object n stands 14 + 2 * j bytes into the 31 of its record.
 fn slots(s: &[u8]) -> [Capability; 512] {
     let nothing = Capability {
         target: 0,
@@ -75,13 +77,13 @@ fn slots(s: &[u8]) -> [Capability; 512] {
     let mut all = [nothing; 512];
     let mut k: usize = 0;
     while k < 512 {
-        all[k] = capability(s, (k / 8 * 30 + 14 + k % 8 * 2) as u16);
+        all[k] = capability(s, (k / 8 * 31 + 14 + k % 8 * 2) as u16);
         k = k + 1;
     }
     all
 }
 
-// The table of 1,920 bytes, sound or not: the records of an image without its head.
+// The table of 1,984 bytes, sound or not: the records of a version 2 image without its head.
 pub fn raw_table(s: &[u8]) -> Table {
     let objects = records(s);
     let held = slots(s);

@@ -14,7 +14,7 @@ use Rattle.mask.proofs.Tests.{byCases, byEq, or-none}
 use Rattle.table.specs.declared.Capability.{Capability}
 use Rattle.table.specs.declared.Table.{Table}
 use Rattle.table.specs.Lists.{tabulate}
-use Rattle.table.specs.Cells.{emptySlot, slotAt, putSlot, isEmpty}
+use Rattle.table.specs.Cells.{emptySlot, recordAt, slotAt, putSlot, isEmpty}
 use Rattle.table.proofs.Cells.{Sized, table-sized, slot-same, slot-beside, sized-putSlot}
 use Rattle.table.proofs.Lists.{getD-tabulate, tabulate-snoc}
 use Rattle.requests.specs.declared.Pair.{Pair}
@@ -35,6 +35,12 @@ copy-snoc : (t : Table) (source : ℕ → Capability) (n : ℕ) (ps : List Pair)
 unfolding copyPairs
 copy-snoc t source n [] p = refl
 copy-snoc t source n (q ∷ ps) p = copy-snoc (copyTo t n (q .to) (source (q .from))) source n ps p
+
+-- no record is touched
+pub copies-record : (t : Table) (source : ℕ → Capability) (n : ℕ) (ps : List Pair) (m : ℕ) → recordAt (copyPairs t source n ps) m ≡ recordAt t m
+unfolding copyPairs
+copies-record t source n [] m = refl
+copies-record t source n (p ∷ ps) m = copies-record (copyTo t n (p .to) (source (p .from))) source n ps m
 
 pub copy-none : (t : Table) (source : ℕ → Capability) (n : ℕ) (f : ℕ → Pair) → t ≡ copyPairs t source n (tabulate 0 f)
 unfolding copyPairs tabulate

@@ -9,7 +9,7 @@ use native.Mathlib.Omega.{arith}
 use lib.Dec.{ltb, eqb}
 use Rattle.mask.proofs.Tests.{byCases, and-false}
 use Rattle.table.specs.declared.Table.{Table}
-use Rattle.table.specs.Cells.{emptySlot, unbornRecord, recordAt, slotAt, stockAt, putRecord, isEmpty, isAlive}
+use Rattle.table.specs.Cells.{emptySlot, noRecord, recordAt, slotAt, stockAt, putRecord, isEmpty, isAlive}
 use Rattle.table.proofs.Lists.{put-there}
 use Rattle.table.proofs.Cells.{record-other, slot-other, slot-put-at}
 use Rattle.requests.specs.declared.Pair.{Pair}
@@ -46,7 +46,7 @@ module _ (t : Table) (m k : ℕ) (full : isEmpty (slotAt t m k) ≡ false) where
   pub allocated-full : (a n kind part i : ℕ) (l : List Pair) → isEmpty (slotAt (allocated t a n kind part i l) m k) ≡ false
   unfolding allocated
   allocated-full a n kind part i l =
-      let born = putRecord (putRecord t a (withStock (recordAt t a) (stockLess n part (stockAt t a)))) n (made kind part) in
+      let born = putRecord (putRecord t a (withStock (recordAt t a) (stockLess n part (stockAt t a)))) n (made a kind part) in
       slot-put-at (λ x. isEmpty x ≡ false) (copyPairs born (slotAt t a) n l) a i m k (fullOver n) (λ q. and-false (eqb n 0))
       (copies-empty-none born (slotAt t a) n l m k full)
 
@@ -69,4 +69,4 @@ destroyed-other t a g m j ne hj = clear-other t g 8 m j ne (omega arith) hj
 pub destroyed-dead : (t : Table) (a g : ℕ) → g ≢ a → isAlive (recordAt (destroyed t a g) g) ≡ false
 unfolding destroyed
 destroyed-dead t a g ne = rw (record-other (putRecord (clearSlots t g 8) g (died (recordAt t g))) a g _ ne)
-    (put-there (λ r. isAlive r ≡ false) (clearSlots t g 8 .records) g (died (recordAt t g)) unbornRecord refl refl)
+    (put-there (λ r. isAlive r ≡ false) (clearSlots t g 8 .records) g (died (recordAt t g)) noRecord refl refl)

@@ -1,3 +1,4 @@
--- The laws that the proofs cite, and which slots an effect empties.
+-- The laws that the proofs cite; which slots an effect empties, and whose maker it leaves.
 pub mod Several
 pub mod Emptied
+pub mod Makers

@@ -34,13 +34,13 @@ module _ (t u : Table) (a g word reply : ℕ) (l : PairList) (row : Row) (fit : 
 -- allocate: `rest` is the giver's stock less n, `stock` that less the part
 pub allocated-is : (t u : Table) (a n kind part i : ℕ) (l : PairList) (row : Row) (rest stock : ℕ) → PairsFit l → row ≡ rowAt t a
     → rest ≡ excluding n (stockAt t a) → stock ≡ lessOf rest part
-    → u ≡ copyPairs (putRecord (putRecord t a (withStock (recordAt t a) stock)) n (made kind part)) (cellOf row) n (pairsOf l)
+    → u ≡ copyPairs (putRecord (putRecord t a (withStock (recordAt t a) stock)) n (made a kind part)) (cellOf row) n (pairsOf l)
     → putSlot u a i (fullOver n) ≡ allocated t a n kind part i (pairsOf l)
 unfolding allocated stockLess
 allocated-is t u a n kind part i l row rest stock fit e p q f =
     ap (λ (v : Table). putSlot v a i (fullOver n))
     (f ∙ copy-row t _ a n l row fit e
-    ∙ ap (λ (m : ℕ). copyPairs (putRecord (putRecord t a (withStock (recordAt t a) m)) n (made kind part)) (slotAt t a) n (pairsOf l))
+    ∙ ap (λ (m : ℕ). copyPairs (putRecord (putRecord t a (withStock (recordAt t a) m)) n (made a kind part)) (slotAt t a) n (pairsOf l))
     (q ∙ ap (λ (x : ℕ). lessOf x part) p))
 
 -- destroy: the slots one by one, then the two records

@@ -25,18 +25,18 @@ clearSlots tb n zero = tb
 clearSlots tb n (suc k) = putSlot (clearSlots tb n k) n k emptySlot
 
 abbrev pub withWord : Record → ℕ → Record
-withWord r w = record { status = r .status; kind = r .kind; word = w; stock = r .stock }
+withWord r w = record { status = r .status; kind = r .kind; maker = r .maker; word = w; stock = r .stock }
 
 abbrev pub withStock : Record → ℕ → Record
-withStock r s = record { status = r .status; kind = r .kind; word = r .word; stock = s }
+withStock r s = record { status = r .status; kind = r .kind; maker = r .maker; word = r .word; stock = s }
 
--- "n becomes alive with the kind, word 0, stock part"
-abbrev pub made : ℕ → ℕ → Record
-made kind part = record { status = 1; kind = kind; word = 0; stock = part }
+-- "n becomes alive with the kind, word 0, stock part"; its maker is "the number of the object that made it" (document 02, 2.7), the actor
+abbrev pub made : ℕ → ℕ → ℕ → Record
+made actor kind part = record { status = 1; kind = kind; maker = actor; word = 0; stock = part }
 
--- "target becomes dead, keeps its kind, loses word and slots"; its stock goes to the actor
+-- "target becomes dead, keeps its kind, loses word and slots"; its stock goes to the actor. "a dead one keeps its byte" (2.7)
 abbrev pub died : Record → Record
-died r = record { status = 2; kind = r .kind; word = 0; stock = 0 }
+died r = record { status = 2; kind = r .kind; maker = r .maker; word = 0; stock = 0 }
 
 -- the actor's slot i "gets (n, 15)"
 abbrev pub fullOver : ℕ → Capability
@@ -56,7 +56,7 @@ unfoldable pub allocated : Table → ℕ → ℕ → ℕ → ℕ → ℕ → Lis
 allocated tb a n kind part i list =
     putSlot
     (copyPairs
-    (putRecord (putRecord tb a (withStock (recordAt tb a) (stockLess n part (stockAt tb a)))) n (made kind part))
+    (putRecord (putRecord tb a (withStock (recordAt tb a) (stockLess n part (stockAt tb a)))) n (made a kind part))
     (slotAt tb a) n list)
     a i (fullOver n)
 

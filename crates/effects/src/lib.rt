@@ -47,6 +47,7 @@ pub fn allocated(t: Table, a: u8, n: u8, kind: u8, part: u64, i: u8, l: PairList
     w.records[m] = Record {
         status: 1,
         kind: kind,
+        maker: a,
         word: 0,
         stock: part,
     };
@@ -79,12 +80,14 @@ pub fn destroyed(t: Table, a: u8, g: u8) -> Table
     u.records[m] = Record {
         status: 2,
         kind: giver.kind,
+        maker: giver.maker,
         word: 0, // lost, as its slots are
         stock: 0,
     };
     u.records[k] = Record {
         status: taker.status,
         kind: taker.kind,
+        maker: taker.maker,
         word: taker.word,
         stock: mask::union(taker.stock, giver.stock),
     };

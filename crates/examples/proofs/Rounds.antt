@@ -9,11 +9,11 @@ use borrow.Author.Tests.{ltb-true}
 use Rattle.mask.specs.Sets.{bits, allBelow, anyBelow}
 use Rattle.mask.proofs.Tests.{byCases, and-true}
 use Rattle.table.specs.Lists.{tabulate}
-use Rattle.table.specs.Cells.{IsTable, emptySlot, unbornRecord}
+use Rattle.table.specs.Cells.{IsTable, emptySlot, noRecord}
 use Rattle.table.specs.Soundness.{stockSound, soundAt, sound}
 use Rattle.table.proofs.Lists.{length-tabulate}
 use Rattle.table.proofs.Places.{at-tabulate}
-use Rattle.table.proofs.Value.{RecordValue, SlotValue, record-value, slot-value, unborn-value, empty-value, values-are-table}
+use Rattle.table.proofs.Value.{RecordValue, SlotValue, record-value, slot-value, none-value, empty-value, values-are-table}
 use Rattle.relation.specs.Relation.{takesPart}
 use Rattle.relation.specs.Closure.{grow}
 use Rattle.links.specs.Links.{capabilityLink}
@@ -48,7 +48,7 @@ slot-fits k = byCases (eqb (k / 8 * 8) k && ltb k 504)
 row-value : IsTable row
 unfolding row
 row-value = values-are-table row (length-tabulate 64 _) (length-tabulate 512 _)
-    (λ n. at-tabulate RecordValue unbornRecord 64 _ n (record-value (active 0) (omega arith) (omega arith) (omega arith) (omega arith)) unborn-value)
+    (λ n. at-tabulate RecordValue noRecord 64 _ n (record-value (active 0) (omega arith) (omega arith) (omega arith) (omega arith) (omega arith)) none-value)
     (λ k. at-tabulate SlotValue emptySlot 512 _ k (slot-fits k) empty-value)
 
 pub rounds-on-tables : RoundsOnTables

@@ -15,7 +15,8 @@ use Rattle.relation.specs.Relation.{Right, rd, wr, wk, tx, Can, tableHolding}
 use Rattle.confinement.specs.Refusals.{verdictNumber}
 use Rattle.confinement.specs.Tests.{testOf}
 use Rattle.octets.specs.BigEndian.{bytesOf}
-use Rattle.image.specs.Layout.{Version, imageOf}
+use Rattle.image.specs.declared.Version.the-variants.{One}
+use Rattle.image.specs.Layout.{imageOf}
 use Rattle.image.specs.Images.{readOf, readNumber}
 use Rattle.report.specs.Printed.{printedOf}
 use Rattle.examples.specs.TableK.{K, over, wrRight, wkRight}
@@ -26,7 +27,7 @@ the n = 2 ^ n
 
 -- example 1 as `confine` reads it: the image, 8 bytes of members, a count byte, an entry
 unfoldable pub input : List ℕ
-input = imageOf Version.one K ++ bytesOf 8 (the 5) ++ (1 ∷ 1 ∷ wrRight ∷ [])
+input = imageOf One K ++ bytesOf 8 (the 5) ++ (1 ∷ 1 ∷ wrRight ∷ [])
 
 -- example 2: "5 holds (1, wk)"
 unfoldable pub weakK : Table
@@ -61,4 +62,4 @@ pub record Twelve : Type 0 where
   pub eleven : ((b : Right) → Can (tableHolding K) b 5 0)
       × (Can (tableHolding K) wk 2 1 × (Can (tableHolding K) rd 2 1 → ⊥) × (Can (tableHolding K) wr 2 1 → ⊥) × (Can (tableHolding K) tx 2 1 → ⊥))
       × ((b : Right) → Can (tableHolding K) b 1 2 → ⊥)
-  pub twelve : (readNumber (readOf (take 1922 (imageOf Version.one K)) .reply) ≡ 14) × (readNumber (readOf (set (imageOf Version.one K) 2 0) .reply) ≡ 15)
+  pub twelve : (readNumber (readOf (take 1922 (imageOf One K)) .reply) ≡ 14) × (readNumber (readOf (set (imageOf One K) 2 0) .reply) ≡ 15)

@@ -1,5 +1,5 @@
 -- The loops that read a table: what has been read when n records and k slots are in place. Both stand in number order, so each
--- store is the next of its list. What the record reader of version 1 puts together stands first. Assumes nothing.
+-- store is the next of its list. What the record reader of both versions puts together stands first. Assumes nothing.
 use mathlib.Core.Path.{_≡_, refl, sym, _∙_, ap, ap₂}
 use mathlib.Core.List.{List}
 use Prim.Native.Nat.{ℕ, _+_, _-_, _*_, _/_, _%_, _^_, _≤_, _<_}
@@ -12,7 +12,8 @@ use Rattle.table.specs.Cells.{unbornTable, putRecord, putSlot, emptySlot}
 use Rattle.table.specs.Lists.{tabulate}
 use Rattle.image.specs.declared.Stored.{Stored}
 use Rattle.octets.specs.BigEndian.{Bytes, byteAt, numberOf}
-use Rattle.image.specs.Layout.{Version, one, recordLength, placeOf, partOf, recordFrom, slotFrom, storedFrom, tableFrom}
+use Rattle.image.specs.declared.Version.{Version}
+use Rattle.image.specs.Layout.{recordLength, partOf, recordWith, recordFrom, slotFrom, storedWith, storedFrom, tableFrom}
 use Rattle.octets.proofs.BigEndian.{number-from, number-append, number-lt}
 use Rattle.octets.proofs.Parts.{bytes-take, bytes-drop}
 use Rattle.table.proofs.Lists.{getD-tabulate}
@@ -20,7 +21,7 @@ use Rattle.table.proofs.Cells.{tables-same}
 use Rattle.octets.proofs.Lists.{filled-none, filled-more, filled-all}
 use Rattle.image.proofs.Fields.{take-two}
 
--- the record reader of version 1 -----------------------------------------------------------
+-- the record reader -----------------------------------------------------------------------
 -- it takes four bytes at a time, of which the stock has twice as many
 abbrev pub fourAt : List ℕ → ℕ → ℕ
 fourAt part k = numberOf (take 4 (drop k part))
@@ -38,11 +39,12 @@ eight-halves part l =
     sym (ap numberOf (sym (take-two part 6 4 4)) ∙ number-append 0 (take 4 (drop 6 part)) low ∙ number-from (fourAt part 6) low
     ∙ ap (λ (k : ℕ). fourAt part 6 * 256 ^ k + fourAt part 10) (length-four part 10 (omega arith)))
 
-pub stored-made : (part : List ℕ) (w h k : ℕ) (slots : List Capability) → length part ≡ recordLength one
+pub stored-made : (part : List ℕ) (maker w h k : ℕ) (slots : List Capability) → 30 ≤ length part
     → w ≡ fourAt part 2 → h ≡ fourAt part 6 → k ≡ fourAt part 10 → slots ≡ tabulate 8 (slotFrom part)
-    → record { object = record { status = byteAt part 0; kind = byteAt part 1; word = w; stock = h * 4294967296 + k }; slots = slots } ≡ storedFrom one part
-unfolding storedFrom recordFrom
-stored-made part w h k slots l e f g s = rw (e, f, g, s, eight-halves part (omega arith)) refl
+    → record { object = record { status = byteAt part 0; kind = byteAt part 1; maker = maker; word = w; stock = h * 4294967296 + k }; slots = slots }
+    ≡ storedWith part maker
+unfolding storedWith recordWith
+stored-made part maker w h k slots l e f g s = rw (e, f, g, s, eight-halves part (omega arith)) refl
 
 -- the table's lists, in any version ----------------------------------------------------------
 abbrev pub recordOf : Version → List ℕ → ℕ → Record
@@ -62,13 +64,13 @@ module _ (v : Version) (bytes : List ℕ) where
   pub slot-place : (n j : ℕ) → j < 8 → slotOf v bytes (n * 8 + j) ≡ slotFrom (partOf v bytes n) j
   slot-place n j h = ap₂ (λ (m i : ℕ). slotFrom (partOf v bytes m) i) (omega arith) (omega arith)
 
-  -- what the record reader is lent is the record's part
-  pub stored-lent : (n : ℕ) (s : Stored) → s ≡ storedFrom v (take (placeOf v n + recordLength v - placeOf v n) (drop (placeOf v n) bytes))
+  -- what the record reader is lent is the record's part; `long` is the length of a record
+  pub stored-lent : (n long : ℕ) (s : Stored) → long ≡ recordLength v → s ≡ storedFrom v (take (3 + long * n + long - (3 + long * n)) (drop (3 + long * n) bytes))
       → s ≡ storedFrom v (partOf v bytes n)
   unfolding partOf
-  stored-lent n s e =
-      let f : placeOf v n + recordLength v - placeOf v n ≡ recordLength v = omega arith in
-      e ∙ ap (λ (k : ℕ). storedFrom v (take k (drop (placeOf v n) bytes))) f
+  stored-lent n long s l e =
+      let f : 3 + long * n + long - (3 + long * n) ≡ recordLength v = omega arith in
+      e ∙ ap₂ (λ (k m : ℕ). storedFrom v (take k (drop (3 + m * n) bytes))) f l
 
   pub read-none : (t : Table) → t ≡ unbornTable → ReadTo v bytes t 0 0
   unfolding unbornTable
@@ -76,7 +78,7 @@ module _ (v : Version) (bytes : List ℕ) where
 
   pub record-more : (t : Table) (n k : ℕ) (s : Stored) → n < 64 → s ≡ storedFrom v (partOf v bytes n) → ReadTo v bytes t n k
       → ReadTo v bytes (putRecord t n (s .object)) (n + 1) k
-  unfolding storedFrom
+  unfolding storedWith
   record-more t n k s h e r = record {
     long = length-set (t .records) n _ ∙ r .long;
     wide = r .wide;
@@ -86,7 +88,7 @@ module _ (v : Version) (bytes : List ℕ) where
 
   pub slot-more : (t : Table) (m n j : ℕ) (s : Stored) → n < 64 → j < 8 → s ≡ storedFrom v (partOf v bytes n) → ReadTo v bytes t m (n * 8 + j)
       → ReadTo v bytes (putSlot t n j (getD (s .slots) j emptySlot)) m (n * 8 + (j + 1))
-  unfolding storedFrom
+  unfolding storedWith
   slot-more t m n j s h g e r =
       let f : n * 8 + j + 1 ≡ n * 8 + (j + 1) = omega arith in
       record {

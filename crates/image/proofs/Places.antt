@@ -16,21 +16,28 @@ use Rattle.table.specs.declared.Table.{Table}
 use Rattle.octets.specs.BigEndian.{Bytes, byteAt, bytesOf, numberOf}
 use Rattle.octets.proofs.BigEndian.{number-written, bytes-read}
 use Rattle.octets.proofs.Parts.{number-two, bytes-drop, bytes-take}
-use Rattle.image.specs.Layout.{Version, one, head, versionByte, recordLength, imageLength, placeOf, storedAt, storedBytes, recordsBytes, imageOf, partOf}
+use Rattle.image.specs.declared.Version.{Version}
+use Rattle.image.specs.declared.Version.the-variants.{One, Two}
+use Rattle.image.specs.Layout.{head, versionByte, recordLength, imageLength, placeOf, storedAt, storedBytes, recordsBytes, imageOf, partOf}
 use Rattle.image.proofs.Fields.{length-stored}
 
 -- the head -----------------------------------------------------------------------------
--- "length 1,923, all bytes counted"
-pub length-one : imageLength one ≡ 1923
+-- "length 1,923, all bytes counted", and "length 1,987"
+pub length-one : imageLength One ≡ 1923
 length-one = refl
+
+pub length-two : imageLength Two ≡ 1987
+length-two = refl
 
 -- the length in two bytes, then the version
 pub head-says : (v : Version) → head v ≡ bytesOf 2 (imageLength v) ++ (versionByte v ∷ [])
 unfolding bytesOf
-head-says one = refl
+head-says One = refl
+head-says Two = refl
 
 length-fits : (v : Version) → imageLength v < 256 ^ 2
-length-fits one = omega arith
+length-fits One = omega arith
+length-fits Two = omega arith
 
 pub length-head : (v : Version) → length (head v) ≡ 3
 unfolding bytesOf
@@ -64,20 +71,20 @@ module _ (v : Version) (bytes : List ℕ) where
   head-read b h e f =
       take-suc bytes 2 0 h ∙ ap₂ (λ (p : List ℕ) (x : ℕ). p ++ (x ∷ [])) (first-two b (omega arith) e ∙ head-two v) f ∙ sym (head-says v)
 
-  -- the head's first two bytes say the length, and no other two do
-  abbrev sameField : Bool
-  sameField = eqb (byteAt bytes 0) (byteAt (head v) 0) && eqb (byteAt bytes 1) (byteAt (head v) 1)
+  -- the head's first two bytes say the length, and no other two do; `begins` is the head
+  abbrev sameField : List ℕ → Bool
+  sameField begins = eqb (byteAt bytes 0) (byteAt begins 0) && eqb (byteAt bytes 1) (byteAt begins 1)
 
-  pub field-right : 2 ≤ length bytes → not sameField ≡ false → numberOf (take 2 bytes) ≡ imageLength v
-  field-right h e =
-      let p = and-true _ _ (not-false _ e) in
+  pub field-right : (begins : List ℕ) → begins ≡ head v → 2 ≤ length bytes → not (sameField begins) ≡ false → numberOf (take 2 bytes) ≡ imageLength v
+  field-right begins q h e =
+      let p = and-true _ _ (not-false _ (ap (λ (l : List ℕ). not (sameField l)) (sym q) ∙ e)) in
       number-two bytes h ∙ ap₂ (λ (x y : ℕ). x * 256 + y) (eqb-true _ _ (p .0)) (eqb-true _ _ (p .1))
       ∙ sym (number-two (head v) (omega (arith, length-head v))) ∙ head-length v
 
-  pub field-wrong : Bytes bytes → 2 ≤ length bytes → not sameField ≡ true → numberOf (take 2 bytes) ≢ imageLength v
-  field-wrong b h e q =
+  pub field-wrong : (begins : List ℕ) → begins ≡ head v → Bytes bytes → 2 ≤ length bytes → not (sameField begins) ≡ true → numberOf (take 2 bytes) ≢ imageLength v
+  field-wrong begins p b h e q =
       let at = head-byte b h q in
-      clash (and-intro _ _ (eq-eqb _ _ (at 0 (omega arith))) (eq-eqb _ _ (at 1 (omega arith)))) (not-true _ e)
+      clash (and-intro _ _ (eq-eqb _ _ (at 0 (omega arith))) (eq-eqb _ _ (at 1 (omega arith)))) (not-true _ (ap (λ (l : List ℕ). not (sameField l)) (sym p) ∙ e))
 
 -- lengths ------------------------------------------------------------------------------
 pub length-records : (v : Version) (t : Table) (n : ℕ) → length (recordsBytes v t n) ≡ recordLength v * n
@@ -95,6 +102,13 @@ module _ (v : Version) where
   -- record k ends before record n begins
   record-ends : (n k : ℕ) → k < n → recordLength v * k + recordLength v ≤ recordLength v * n
   record-ends n k h = rw mul-suc at (mul-le-mul-left (recordLength v) h)
+
+  -- and within the image, whose length is a small number; `long` is the length of a record
+  pub part-ends : (n long : ℕ) → n < 64 → long ≡ recordLength v → 3 + long * n + long ≤ imageLength v
+  part-ends n long h e = rw e (omega (arith, record-ends 64 n h))
+
+  pub part-small : (n long : ℕ) → n < 64 → long ≡ recordLength v → 3 + long * n + long < 256 ^ 2
+  part-small n long h e = omega (arith, part-ends n long h e, length-fits v)
 
   part-records : (t : Table) (n k : ℕ) → k < n → take (recordLength v) (drop (recordLength v * k) (recordsBytes v t n)) ≡ storedBytes v (storedAt t k)
   unfolding recordsBytes

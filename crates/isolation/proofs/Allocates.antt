@@ -27,10 +27,10 @@ use Rattle.copies.specs.Copies.{copyPairs}
 use Rattle.isolation.specs.Clean.{Clean, adding}
 use Rattle.isolation.specs.Demand.{AgreeOn}
 use Rattle.isolation.proofs.Invariant.{Isolated, nobody-clean, putSlot-isolated, putRecord-isolated, agree-slot-out, agree-record-out, agree-trans, agree-slot, agree-record}
-use Rattle.copies.proofs.Pairs.{copies-sized}
+use Rattle.copies.proofs.Pairs.{copies-record, copies-sized}
 use Rattle.steps.proofs.Granted.{ranged, Made, made-facts}
 use Rattle.isolation.proofs.Sides.{fits-live, stock-kept}
-use Rattle.isolation.proofs.Copies.{fits-moved, copies-record, copies-isolated, copies-out, copies-both}
+use Rattle.isolation.proofs.Copies.{fits-moved, copies-isolated, copies-out, copies-both}
 
 -- what is left of the stock
 has-left : (n part stock k : ℕ) → k < 64 → has k (stockLess n part stock) ≡ true → (has k stock ≡ true) × (k ≢ n) × (has k part ≡ false)
@@ -82,6 +82,7 @@ module _ (t : Table) (C : Clean) (v : Isolated t C) (a n k p i : ℕ) (ps : List
   v1 : Isolated t1 C
   unfolding t1
   v1 = putRecord-isolated t C a _ v (g .actor) (fits-live t a _ (v .sound) (g .actor) (g .alive) (g .alive) (v .sound .records a .sort)
+      (v .sound .makers a (g .actor) .born)
       (λ x hx h. stock-kept t a (v .sound) x hx (has-left n p _ x hx h .0)))
 
   same-status : (m : ℕ) → statusAt t1 m ≡ statusAt t m
@@ -98,12 +99,13 @@ module _ (t : Table) (C : Clean) (v : Isolated t C) (a n k p i : ℕ) (ps : List
 
   -- the new record
   t2 : Table
-  t2 = putRecord t1 n (made k p)
+  t2 = putRecord t1 n (made a k p)
 
   v2 : Isolated t2 C
   unfolding t2
   v2 = putRecord-isolated t1 C n _ v1 (g .number) (record {
     fine = record { low = omega arith; sort = g .kind; still = λ h. absurd (h refl); plain = λ h. absurd (omega arith) };
+    maker = record { alone = λ h. absurd (omega arith); born = λ q. omega (arith, same-status a, g .alive) };
     keep = λ h. omega arith;
     idle = λ h. absurd (h refl);
     free = λ x hx h. let w = g .share .inside x hx h in (same-status x ∙ v .sound .stocks a x hx (w .0), w .1);
@@ -119,7 +121,7 @@ module _ (t : Table) (C : Clean) (v : Isolated t C) (a n k p i : ℕ) (ps : List
   unfolding t2
   alive2 = record-put (λ x. x .status ≡ 1) t1 n a _ (v1 .sound .size) (g .number) (λ q. refl) (λ q. same-status a ∙ g .alive)
 
-  new2 : recordAt t2 n ≡ made k p
+  new2 : recordAt t2 n ≡ made a k p
   unfolding t2
   new2 = record-same t1 n _ (v1 .sound .size) (g .number)
 
@@ -144,8 +146,8 @@ module _ (t : Table) (C : Clean) (v : Isolated t C) (a n k p i : ℕ) (ps : List
     v4 = rw opened (putSlot-isolated t3 D a i _ v3 (g .actor) (g .slot) (record {
       fine = record {
         blank = λ h. absurd (omega arith);
-        held = λ h. ap (λ (r : Record). r .status) (copies-record (ranged ps (g .list)) t2 (slotAt t a) n a) ∙ alive2;
-        named = λ h. omega (arith, ap (λ (r : Record). r .status) (copies-record (ranged ps (g .list)) t2 (slotAt t a) n n) ∙ born2);
+        held = λ h. ap (λ (r : Record). r .status) (copies-record t2 (slotAt t a) n ps a) ∙ alive2;
+        named = λ h. omega (arith, ap (λ (r : Record). r .status) (copies-record t2 (slotAt t a) n ps n) ∙ born2);
         high = omega arith;
       };
       in-clean = λ c h. side ∙ c;

@@ -10,7 +10,7 @@ use borrow.Author.Tests.{ltb-true}
 use Rattle.mask.proofs.Tests.{byCases, byEq}
 use Rattle.table.specs.declared.Capability.{Capability}
 use Rattle.table.specs.declared.Table.{Table}
-use Rattle.table.specs.Cells.{emptySlot, recordAt, slotAt, statusAt, putSlot}
+use Rattle.table.specs.Cells.{emptySlot, slotAt, statusAt, putSlot}
 use Rattle.table.proofs.Cells.{Sized, sized-putSlot, slot-same, slot-beside}
 use Rattle.requests.specs.declared.Pair.{Pair}
 use Rattle.effects.specs.Effects.{answerSlot, clearSlots}
@@ -52,11 +52,6 @@ pub copy-both : (t u : Table) (C : Clean) (n j : ℕ) (c d : Capability) → Siz
 copy-both t u C n j c d zt zu ag hn hj h e = agree-slot C t u zt zu ag n hn j _ _ hj (landed-same _ _ c d (ag .slots n j hj h) e)
 
 -- pairs --------------------------------------------------------------------------------
-pub copies-record : {ps : List Pair} → Ranged ps → (t : Table) (src : ℕ → Capability) (y m : ℕ) → recordAt (copyPairs t src y ps) m ≡ recordAt t m
-unfolding copyPairs
-copies-record none t src y m = refl
-copies-record (more {p = p} hf ht r) t src y m = copies-record r (copyTo t y (p .to) (src (p .from))) src y m
-
 fits-kept : (t : Table) (C : Clean) (n j : ℕ) (x : Capability) (y : ℕ) (c : Capability) → SlotFits t C y c → SlotFits (putSlot t n j x) C y c
 fits-kept t C n j x y c f = record { fine = f .fine; in-clean = f .in-clean; out-clean = f .out-clean }
 
@@ -96,11 +91,6 @@ answer-both t u C n y a zt zu ag hn = byCases (ltb y 8)
     (λ e. rw (e, answerSlot) (agree-slot C t u zt zu ag n hn y _ _ (ltb-true y 8 e) refl)) (λ e. rw (e, answerSlot) ag)
 
 -- slots emptied -------------------------------------------------------------------------------
-pub clear-record : (t : Table) (y k m : ℕ) → recordAt (clearSlots t y k) m ≡ recordAt t m
-unfolding clearSlots
-clear-record t y zero m = refl
-clear-record t y (suc k) m = clear-record t y k m
-
 pub clear-isolated : (t : Table) (C : Clean) (y k : ℕ) → Isolated t C → y < 64 → k ≤ 8 → Isolated (clearSlots t y k) C
 unfolding clearSlots
 clear-isolated t C y zero v hy hk = v

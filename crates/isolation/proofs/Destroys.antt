@@ -3,26 +3,27 @@
 use mathlib.Core.Path.{_≡_, refl, sym, _∙_, ap}
 use mathlib.Core.Logic.{_≢_}
 use mathlib.Core.Bool.{true, false}
-use Prim.Native.Nat.{ℕ, _<_}
+use Prim.Native.Nat.{ℕ, _≤_, _<_}
 use native.Mathlib.Omega.{arith}
 use Rattle.mask.specs.Sets.{has, unionOf}
 use Rattle.mask.proofs.Tests.{byCases, clash, or-cases}
 use Rattle.mask.proofs.Bits.{has-zero, has-union}
 use Rattle.table.specs.declared.Record.{Record}
 use Rattle.table.specs.declared.Table.{Table}
-use Rattle.table.specs.Cells.{recordAt, slotAt, statusAt, stockAt, putRecord}
+use Rattle.table.specs.Cells.{noMaker, recordAt, slotAt, statusAt, makerAt, stockAt, putRecord}
 use Rattle.table.proofs.Cells.{record-put, sized-putRecord}
 use Rattle.rights.specs.declared.Need.the-variants.{Write}
 use Rattle.requests.specs.Asks.{destroy}
 use Rattle.refusals.specs.Replies.{isDone}
 use Rattle.refusals.specs.Refusals.{badField, laterRows, refusal, targetOf}
 use Rattle.effects.specs.Effects.{clearSlots, withStock, died, destroyed, effect}
+use Rattle.effects.proofs.Makers.{clear-record}
 use Rattle.isolation.specs.Clean.{Clean}
 use Rattle.isolation.specs.Demand.{AgreeOn}
-use Rattle.isolation.proofs.Invariant.{Isolated, putRecord-isolated, agree-record-out, agree-trans, agree-record}
+use Rattle.isolation.proofs.Invariant.{Isolated, status-up, putRecord-isolated, agree-record-out, agree-trans, agree-record}
 use Rattle.steps.proofs.Granted.{past-checks, Granted, granted, not-itself}
 use Rattle.isolation.proofs.Sides.{clean-target, dirty-target, weak-no-write, fits-live, stock-kept}
-use Rattle.isolation.proofs.Copies.{clear-record, clear-isolated, clear-sized, clear-bare, clear-out, clear-both}
+use Rattle.isolation.proofs.Copies.{clear-isolated, clear-sized, clear-bare, clear-out, clear-both}
 
 module _ (t : Table) (C : Clean) (v : Isolated t C) (a s : ℕ) (e : isDone (refusal t (destroy a s)) ≡ true) where
   g : Granted t a s Write
@@ -48,6 +49,9 @@ module _ (t : Table) (C : Clean) (v : Isolated t C) (a s : ℕ) (e : isDone (ref
   unfolding t1
   record1 m = clear-record t y 8 m
 
+  born1 : (m : ℕ) → 1 ≤ statusAt t m → 1 ≤ statusAt t1 m
+  born1 m h = omega (arith, ap (λ (r : Record). r .status) (record1 m))
+
   bare1 : (j : ℕ) → j < 8 → slotAt t1 y j .rights ≡ 0
   unfolding t1 y
   bare1 j hj = clear-bare t y 8 j (v .sound .size) (g .target) (omega arith) hj
@@ -60,6 +64,7 @@ module _ (t : Table) (C : Clean) (v : Isolated t C) (a s : ℕ) (e : isDone (ref
   unfolding t2 y
   v2 = putRecord-isolated t1 C y _ v1 (g .target) (record {
     fine = record { low = omega arith; sort = v .sound .records _ .sort; still = λ h. (refl, refl); plain = λ h. absurd (omega arith) };
+    maker = record { alone = λ h. absurd (omega arith); born = λ q. born1 (makerAt t (targetOf t a s)) (v .sound .makers _ (g .target) .born q) };
     keep = λ h. omega arith;
     idle = λ h j hj. bare1 j hj;
     free = λ x hx h. clash h (has-zero x);
@@ -80,13 +85,19 @@ module _ (t : Table) (C : Clean) (v : Isolated t C) (a s : ℕ) (e : isDone (ref
   unfolding t2 y
   alive2 = record-put (λ r. r .status ≡ 1) t1 y a _ (v1 .sound .size) (g .target) (λ q. absurd (y≢a (sym q))) (λ q. rw (record1 a) (g .alive))
 
+  -- the actor's maker is still born
+  maker2 : makerAt t a ≢ noMaker → 1 ≤ statusAt t2 (makerAt t a)
+  unfolding t2 y
+  maker2 q = status-up t1 (targetOf t a s) (makerAt t a) _ (v1 .sound .size) (g .target) (λ h. omega arith)
+      (born1 (makerAt t a) (v .sound .makers a (g .actor) .born q))
+
   -- the actor's stock
   t3 : Table
   t3 = putRecord t2 a (withStock (recordAt t a) (unionOf (stockAt t a) (stockAt t y)))
 
   v3 : Isolated t3 C
   unfolding t3
-  v3 = putRecord-isolated t2 C a _ v2 (g .actor) (fits-live t2 a _ (v2 .sound) (g .actor) alive2 (g .alive) (v .sound .records a .sort)
+  v3 = putRecord-isolated t2 C a _ v2 (g .actor) (fits-live t2 a _ (v2 .sound) (g .actor) alive2 (g .alive) (v .sound .records a .sort) maker2
       (λ x hx h. or-cases (has x (stockAt t a)) (has x (stockAt t y)) (sym (has-union x _ _ hx) ∙ h)
       (λ q. let k = stock-kept t a (v .sound) x hx q in left2 x hx (k .0) (λ m p r. k .1 m p))
       (λ q. let k = stock-kept t y (v .sound) x hx q in left2 x hx (k .0) (λ m p r. k .1 m r))))

@@ -12,9 +12,9 @@ use Rattle.mask.proofs.Tests.{byCases, byEq, clash}
 use Rattle.table.specs.declared.Capability.{Capability}
 use Rattle.table.specs.declared.Record.{Record}
 use Rattle.table.specs.declared.Table.{Table}
-use Rattle.table.specs.Cells.{slotAt, statusAt, stockAt, putRecord, putSlot}
+use Rattle.table.specs.Cells.{slotAt, statusAt, makerAt, stockAt, putRecord, putSlot}
 use Rattle.table.proofs.Cells.{Sized, sized-putSlot, sized-putRecord, record-same, record-other, slot-same, slot-other, slot-beside, slot-put, record-put, record-high}
-use Rattle.table.proofs.SoundFacts.{RecordFine, SlotFine, Sound}
+use Rattle.table.proofs.SoundFacts.{RecordFine, MakerFine, SlotFine, Sound}
 use Rattle.isolation.specs.Clean.{Clean}
 use Rattle.isolation.specs.Demand.{AgreeOn}
 
@@ -45,6 +45,7 @@ putSlot-sound : (t : Table) (n j : ℕ) (c : Capability) → Sound t → n < 64 
 putSlot-sound t n j c d hn hj f = record {
   size = sized-putSlot t n j c (d .size);
   records = d .records;
+  makers = d .makers;
   slots = λ m k hk. slot-put (λ x. SlotFine (statusAt t m) (statusAt t (x .target)) x) t n j m k c (d .size) hn hj hk (λ e g. rw e f) (d .slots m k hk);
   stocks = d .stocks;
   apart = d .apart;
@@ -61,19 +62,28 @@ putSlot-isolated t C n j c v hn hj f = record {
 -- a record is put ------------------------------------------------------------------
 pub record RecordFits (t : Table) (n : ℕ) (r : Record) : Type 0 where
   pub fine : RecordFine r
+  pub maker : MakerFine (r .status) (statusAt t (r .maker)) (r .maker)
   pub keep : 1 ≤ statusAt t n → 1 ≤ r .status
   pub idle : r .status ≢ 1 → (j : ℕ) → j < 8 → slotAt t n j .rights ≡ 0
   pub free : (k : ℕ) → k < 64 → has k (r .stock) ≡ true → (statusAt t k ≡ 0) × (k ≢ n)
   pub alone : (m k : ℕ) → k < 64 → m ≢ n → has k (r .stock) ≡ true → has k (stockAt t m) ≡ false
   pub unlisted : (m : ℕ) → m ≢ n → has n (stockAt t m) ≡ false
 
-status-up : (t : Table) (n m : ℕ) (r : Record) → Sized t → n < 64 → (1 ≤ statusAt t n → 1 ≤ r .status) → 1 ≤ statusAt t m → 1 ≤ statusAt (putRecord t n r) m
+pub status-up : (t : Table) (n m : ℕ) (r : Record) → Sized t → n < 64 → (1 ≤ statusAt t n → 1 ≤ r .status) → 1 ≤ statusAt t m → 1 ≤ statusAt (putRecord t n r) m
 status-up t n m r z hn keep h = record-put (λ x. 1 ≤ x .status) t n m r z hn (λ e. keep (rw e at h)) (λ e. h)
+
+-- so a maker that was born is born
+maker-up : (t : Table) (n : ℕ) (r : Record) → Sized t → n < 64 → (1 ≤ statusAt t n → 1 ≤ r .status)
+    → (a m : ℕ) → MakerFine a (statusAt t m) m → MakerFine a (statusAt (putRecord t n r) m) m
+maker-up t n r z hn keep a m f = record { alone = f .alone; born = λ q. status-up t n m r z hn keep (f .born q) }
 
 putRecord-sound : (t : Table) (n : ℕ) (r : Record) → Sound t → n < 64 → RecordFits t n r → Sound (putRecord t n r)
 putRecord-sound t n r d hn f = record {
   size = sized-putRecord t n r (d .size);
   records = λ m. record-put RecordFine t n m r (d .size) hn (λ e. f .fine) (λ e. d .records m);
+  makers = λ m hm. record-put (λ x. MakerFine (x .status) (statusAt (putRecord t n r) (x .maker)) (x .maker)) t n m r (d .size) hn
+      (λ e. maker-up t n r (d .size) hn (f .keep) (r .status) (r .maker) (f .maker))
+      (λ e. maker-up t n r (d .size) hn (f .keep) (statusAt t m) (makerAt t m) (d .makers m hm));
   slots = λ m j hj. record {
     blank = d .slots m j hj .blank;
     held = λ h. record-put (λ x. x .status ≡ 1) t n m r (d .size) hn

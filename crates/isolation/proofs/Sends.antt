@@ -20,10 +20,10 @@ use Rattle.copies.specs.Copies.{copyPairs}
 use Rattle.isolation.specs.Clean.{Clean}
 use Rattle.isolation.specs.Demand.{AgreeOn}
 use Rattle.isolation.proofs.Invariant.{Isolated, putRecord-isolated, agree-record-out, agree-trans, agree-record}
-use Rattle.copies.proofs.Pairs.{copies-sized}
+use Rattle.copies.proofs.Pairs.{copies-record, copies-sized}
 use Rattle.steps.proofs.Granted.{past-checks, Granted, granted, Ranged, ranged, send-list}
 use Rattle.isolation.proofs.Sides.{clean-target, same-side, weak-no-send, fits-word}
-use Rattle.isolation.proofs.Copies.{fits-moved, copies-record, copies-isolated, copies-out, copies-both, answer-isolated, answer-out, answer-both}
+use Rattle.isolation.proofs.Copies.{fits-moved, copies-isolated, copies-out, copies-both, answer-isolated, answer-out, answer-both}
 
 module _ (t : Table) (C : Clean) (v : Isolated t C) (a s w : ℕ) (ps : List Pair) (y : ℕ) (e : isDone (refusal t (send a s w ps y)) ≡ true) where
   send-fields : ((noObject a || noSlot s) ≡ false) × Ranged ps
@@ -59,8 +59,8 @@ module _ (t : Table) (C : Clean) (v : Isolated t C) (a s w : ℕ) (ps : List Pai
       answer-isolated _ C _ y a copied-isolated (g .target) (record {
         fine = record {
           blank = λ h. absurd (omega arith);
-          held = λ h. ap (λ (r : Record). r .status) (copies-record (send-fields .1) worded (slotAt t a) _ _) ∙ worded-status _ ∙ g .there;
-          named = λ h. omega (arith, ap (λ (r : Record). r .status) (copies-record (send-fields .1) worded (slotAt t a) (targetOf t a s) a) ∙ worded-status a ∙ g .alive);
+          held = λ h. ap (λ (r : Record). r .status) (copies-record worded (slotAt t a) _ ps _) ∙ worded-status _ ∙ g .there;
+          named = λ h. omega (arith, ap (λ (r : Record). r .status) (copies-record worded (slotAt t a) (targetOf t a s) ps a) ∙ worded-status a ∙ g .alive);
           high = omega arith;
         };
         in-clean = λ c h. sym side ∙ c;

@@ -8,7 +8,7 @@ use Rattle.mask.specs.Sets.{has}
 use Rattle.mask.proofs.Tests.{byCases, clash}
 use Rattle.table.specs.declared.Record.{Record}
 use Rattle.table.specs.declared.Table.{Table}
-use Rattle.table.specs.Cells.{recordAt, statusAt, stockAt}
+use Rattle.table.specs.Cells.{noMaker, recordAt, statusAt, stockAt}
 use Rattle.table.proofs.SoundFacts.{Sound}
 use Rattle.rights.specs.declared.Need.the-variants.{Write, Send}
 use Rattle.rights.specs.declared.Need.{Need}
@@ -42,10 +42,12 @@ module _ (t : Table) (C : Clean) (v : Isolated t C) (a s : ℕ) (need : Need) (g
 
 -- records that fit --------------------------------------------------------------------
 pub fits-live : (t : Table) (n : ℕ) (r : Record) → Sound t → n < 64 → statusAt t n ≡ 1 → r .status ≡ 1 → r .kind ≤ 1
+    → (r .maker ≢ noMaker → 1 ≤ statusAt t (r .maker))
     → ((k : ℕ) → k < 64 → has k (r .stock) ≡ true → (statusAt t k ≡ 0) × ((m : ℕ) → m ≢ n → has k (stockAt t m) ≡ false))
     → RecordFits t n r
-fits-live t n r d hn l p q f = record {
+fits-live t n r d hn l p q made f = record {
   fine = record { low = omega arith; sort = q; still = λ h. absurd (h p); plain = λ h. absurd (omega arith) };
+  maker = record { alone = λ h. absurd (omega arith); born = made };
   keep = λ h. omega arith;
   idle = λ h. absurd (h p);
   free = λ k hk h. (f k hk h .0, λ e. absurd (omega (arith, f k hk h .0, rw (← e) at l)));
@@ -58,4 +60,4 @@ pub stock-kept : (t : Table) (n : ℕ) → Sound t → (k : ℕ) → k < 64 → 
 stock-kept t n d k hk h = (d .stocks n k hk h, λ m hm. byCases (has k (stockAt t m)) (λ q. absurd (hm (d .apart m n k hk q h))) (λ q. q))
 
 pub fits-word : (t : Table) (n w : ℕ) → Sound t → n < 64 → statusAt t n ≡ 1 → RecordFits t n (withWord (recordAt t n) w)
-fits-word t n w d hn l = fits-live t n _ d hn l l (d .records n .sort) (stock-kept t n d)
+fits-word t n w d hn l = fits-live t n _ d hn l l (d .records n .sort) (d .makers n hn .born) (stock-kept t n d)

@@ -14,6 +14,7 @@ use borrow.Author.Tests.{ltb-true, not-true}
 use Rattle.mask.specs.Sets.{has}
 use Rattle.mask.proofs.Tests.{byCases, and-true}
 use Rattle.table.specs.declared.Capability.{Capability}
+use Rattle.table.specs.declared.Record.{Record}
 use Rattle.table.specs.declared.Table.{Table}
 use Rattle.table.specs.Cells.{IsTable, slotAt, bornAt}
 use Rattle.table.proofs.Cells.{table-sized}
@@ -30,7 +31,7 @@ use Rattle.requests.specs.Asks.{Ask}
 use Rattle.steps.specs.Steps.{runTable}
 use Rattle.relation.proofs.Tables.{part-same}
 use Rattle.isolation.specs.Clean.{Clean, cleanAtStart, cleanAtEnd, cleanRequests, cleanReplies}
-use Rattle.isolation.specs.Demand.{AgreeOn, Alike, TwoRuns}
+use Rattle.isolation.specs.Demand.{AgreeOn, Alike, TwoRuns, SameMakers}
 use Rattle.isolation.proofs.Invariant.{wkAlone, Isolated, agree-refl}
 use Rattle.isolation.proofs.Runs.{Shared, shadow, runs-alike, run-isolated}
 use Rattle.isolation.proofs.Start.{start-isolated}
@@ -91,6 +92,11 @@ two-runs t u members list b =
           (agree-start t u members list (b .agree))
           (e ∙ ap (λ (E : Clean). cleanRequests u E qs) (sym same)));
     }
+
+-- the maker is a field of the record
+pub same-makers : SameMakers
+unfolding SameMakers TwoRuns
+same-makers t u members list b ps qs e n c = ap (λ (r : Record). r .maker) (two-runs t u members list b .runs ps qs e .cells .records n c)
 
 module _ (t : Table) (members : ℕ) (list : List Capability) (value : IsTable t) (accepted : verdictNumber (verdictOf t members list) ≡ 0) (qs : List Ask) where
   -- (a)

@@ -1,6 +1,7 @@
 -- A witness that demand 3 is no empty claim, computed: two different sound tables that agree outside the member 2; a test that
 -- accepts, with the bound {3} and the clean objects 0 and 1; two different lists in which the same clean requests, an allocate
--- among them, are answered 0, and the member's requests change the table; and the theorem applied to them. Assumes nothing.
+-- among them, are answered 0, and the member's requests change the table; the theorem applied to them; and who made the new object. Assumes
+-- nothing.
 use mathlib.Core.Path.{_≡_, refl, sym, _∙_, ap}
 use mathlib.Core.Logic.{_≢_}
 use mathlib.Core.Bool.{Bool, true, false, _&&_}
@@ -16,7 +17,7 @@ use Rattle.mask.proofs.Below.{all-at}
 use Rattle.table.specs.declared.Capability.{Capability}
 use Rattle.table.specs.declared.Record.{Record}
 use Rattle.table.specs.declared.Table.{Table}
-use Rattle.table.specs.Cells.{IsTable, emptySlot, unbornRecord, recordAt, putRecord, putSlot}
+use Rattle.table.specs.Cells.{IsTable, noMaker, emptySlot, noRecord, unbornRecord, recordAt, makerAt, putRecord, putSlot}
 use Rattle.table.specs.Soundness.{stockSound, soundAt, sound}
 use Rattle.table.proofs.Cells.{record-other, slot-other}
 use Rattle.rights.specs.Rows as Rights
@@ -30,14 +31,14 @@ use Rattle.requests.specs.Asks.{Ask, read, write, allocate}
 use Rattle.refusals.specs.Refusals as Refusals
 use Rattle.effects.specs.Effects.{stockLess, allocated, effect}
 use Rattle.copies.specs.Copies.{landed, copyPairs}
-use Rattle.steps.specs.Steps.{after}
-use Rattle.isolation.specs.Clean.{Clean, cleanAtStart, cleanAfter, cleanRequests, cleanReplies}
-use Rattle.isolation.specs.Demand.{Alike, BothAccepted, TwoRuns}
-use Rattle.isolation.proofs.TwoRuns.{two-runs}
+use Rattle.steps.specs.Steps.{after, runTable}
+use Rattle.isolation.specs.Clean.{Clean, cleanAtStart, cleanAfter, cleanAtEnd, cleanRequests, cleanReplies}
+use Rattle.isolation.specs.Demand.{Alike, BothAccepted, TwoRuns, SameMakers}
+use Rattle.isolation.proofs.TwoRuns.{two-runs, same-makers}
 
 -- a value of the table type, by trying every record and slot ------------------------
 unfoldable pub recordFits : Record → Bool
-recordFits r = ltb (r .status) 256 && ltb (r .kind) 256 && ltb (r .word) (2 ^ 32) && ltb (r .stock) (2 ^ 64)
+recordFits r = ltb (r .status) 256 && ltb (r .kind) 256 && ltb (r .word) (2 ^ 32) && ltb (r .stock) (2 ^ 64) && ltb (r .maker) 256
 
 unfoldable pub slotFits : Capability → Bool
 slotFits c = ltb (c .target) 256 && ltb (c .rights) 256
@@ -49,29 +50,37 @@ each P d l n e h f k = byCases (ltb k n)
     (λ q. ap P (List·getD-eq-default l d (omega (arith, ltb-false k n q))) ∙ h)
 
 pub value-of : (t : Table) → length (t .records) ≡ 64 → length (t .slots) ≡ 512
-    → allBelow 64 (λ n. recordFits (getD (t .records) n unbornRecord)) ≡ true
+    → allBelow 64 (λ n. recordFits (getD (t .records) n noRecord)) ≡ true
     → allBelow 512 (λ k. slotFits (getD (t .slots) k emptySlot)) ≡ true → IsTable t
 unfolding recordFits slotFits
 value-of t p q f g = record {
   records = p;
   slots = q;
-  statuses = λ n. ltb-true _ _ (and-true _ _ (and-true _ _ (and-true _ _ (rec n) .0) .0) .0);
-  kinds = λ n. ltb-true _ _ (and-true (ltb (recordAt t n .status) 256) _ (and-true _ _ (and-true _ _ (rec n) .0) .0) .1);
-  words = λ n. ltb-true _ _ (and-true (ltb (recordAt t n .status) 256 && ltb (recordAt t n .kind) 256) _ (and-true _ _ (rec n) .0) .1);
-  stocks = λ n. ltb-true _ _ (and-true (ltb (recordAt t n .status) 256 && ltb (recordAt t n .kind) 256 && ltb (recordAt t n .word) (2 ^ 32)) _ (rec n) .1);
+  statuses = λ n. ltb-true _ _ (and-true _ _ (and-true _ _ (and-true _ _ (fields n) .0) .0) .0);
+  kinds = λ n. ltb-true _ _ (and-true (ltb (recordAt t n .status) 256) _ (and-true _ _ (and-true _ _ (fields n) .0) .0) .1);
+  makers = λ n. ltb-true _ _ (and-true (unmade (recordAt t n)) _ (rec n) .1);
+  words = λ n. ltb-true _ _ (and-true (ltb (recordAt t n .status) 256 && ltb (recordAt t n .kind) 256) _ (and-true _ _ (fields n) .0) .1);
+  stocks = λ n. ltb-true _ _ (and-true (ltb (recordAt t n .status) 256 && ltb (recordAt t n .kind) 256 && ltb (recordAt t n .word) (2 ^ 32)) _ (fields n) .1);
   targets = λ k. ltb-true _ _ (and-true (ltb (getD (t .slots) k emptySlot .target) 256) _ (cap k) .0);
   rights = λ k. ltb-true _ _ (and-true (ltb (getD (t .slots) k emptySlot .target) 256) _ (cap k) .1);
 }
   where
     rec : (n : ℕ) → recordFits (recordAt t n) ≡ true
-    rec = each recordFits unbornRecord (t .records) 64 p refl f
+    rec = each recordFits noRecord (t .records) 64 p refl f
+
+    -- all but the maker
+    unmade : Record → Bool
+    unmade r = ltb (r .status) 256 && ltb (r .kind) 256 && ltb (r .word) (2 ^ 32) && ltb (r .stock) (2 ^ 64)
+
+    fields : (n : ℕ) → unmade (recordAt t n) ≡ true
+    fields n = and-true (unmade (recordAt t n)) _ (rec n) .0
 
     cap : (k : ℕ) → slotFits (getD (t .slots) k emptySlot) ≡ true
     cap = each slotFits emptySlot (t .slots) 512 q refl g
 
 -- the tables -------------------------------------------------------------------------
 unfoldable pub alive : ℕ → ℕ → ℕ → Record
-alive kind word stock = record { status = 1; kind = kind; word = word; stock = stock }
+alive kind word stock = record { status = 1; kind = kind; maker = noMaker; word = word; stock = stock }
 
 unfoldable pub over : ℕ → ℕ → Capability
 over target rights = record { target = target; rights = rights }
@@ -178,3 +187,16 @@ witnessed = two-runs base other members list both .runs left-list right-list (le
 
 pub right-done : cleanReplies other D right-list ≡ Done ∷ Done ∷ []
 right-done = sym (witnessed .replies) ∙ left-done
+
+-- the new object is clean, and its maker is 0: computed on the left, and so on the right
+new-clean : cleanAtEnd base C left-list 8 ≡ true
+unfolding left-list base members list alive over bits allBelow anyBelow lessOf excluding subsetOf stockSound soundAt sound takesPart holdsIn grow spread only reached bothTakePart holdsStrong link influencedSet listed lowestFrom standIn testNode testHeld boundOf cleanAtStart cleanAfter cleanAtEnd Refusals.badSlots Refusals.badList Refusals.badField Rights.rows Rights.worthOf Rights.needMet Refusals.through Refusals.throughSlot Refusals.notInStock Refusals.laterRows Refusals.refusal landed copyPairs stockLess allocated effect after
+new-clean = refl
+
+pub maker-left : makerAt (runTable base left-list) 8 ≡ 0
+unfolding left-list base alive over bits allBelow anyBelow lessOf excluding subsetOf stockSound soundAt sound Refusals.badSlots Refusals.badList Refusals.badField Rights.rows Rights.worthOf Rights.needMet Refusals.through Refusals.throughSlot Refusals.notInStock Refusals.laterRows Refusals.refusal landed copyPairs stockLess allocated effect after runTable
+maker-left = refl
+
+pub maker-right : makerAt (runTable other right-list) 8 ≡ 0
+unfolding SameMakers
+maker-right = sym (same-makers base other members list both left-list right-list (left-asked ∙ sym right-asked) 8 new-clean) ∙ maker-left

@@ -7,7 +7,7 @@ use mathlib.Core.List.{List}
 use Prim.Native.Nat.{ℕ, _<_}
 use Rattle.table.specs.declared.Capability.{Capability}
 use Rattle.table.specs.declared.Table.{Table}
-use Rattle.table.specs.Cells.{IsTable, recordAt, slotAt}
+use Rattle.table.specs.Cells.{IsTable, recordAt, slotAt, makerAt}
 use Rattle.bounds.specs.StandIn.{boundOf}
 use Rattle.confinement.specs.Refusals.{verdictOf, verdictNumber}
 use Rattle.confinement.specs.Rounds.{roundsOf}
@@ -47,3 +47,9 @@ pub record Same (t u : Table) (members : ℕ) (list : List Capability) : Type 0 
 -- demand 3
 unfoldable pub TwoRuns : Type 0
 TwoRuns = (t u : Table) (members : ℕ) (list : List Capability) → BothAccepted t u members list → Same t u members list
+
+-- "The equal-records claim includes the byte" (document 02, 2.7): at the end of two such runs the makers of the clean objects are the same
+unfoldable pub SameMakers : Type 0
+SameMakers = (t u : Table) (members : ℕ) (list : List Capability) → BothAccepted t u members list → (ps qs : List Ask)
+    → cleanRequests t (cleanAtStart t members list) ps ≡ cleanRequests u (cleanAtStart u members list) qs
+    → (n : ℕ) → cleanAtEnd t (cleanAtStart t members list) ps n ≡ true → makerAt (runTable t ps) n ≡ makerAt (runTable u qs) n

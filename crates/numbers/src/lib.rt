@@ -1,5 +1,5 @@
 // Every answer by its number: "Where an answer is an enum, a definition tells you this paper's number", document 01. 0 is done,
-// answered, accepted, read or written.
+// answered, accepted, read or written. 23 is document 02's, 2.7.
 use access::AccessReply;
 use confinement::Verdict;
 use image::ReadReply;
@@ -74,5 +74,6 @@ pub fn of_write(r: WriteReply) -> u8
         WriteReply::Done => 0,
         WriteReply::TableUnsound => 1,
         WriteReply::BufferShort => 16,
+        WriteReply::MakerRecorded => 23,
     }
 }

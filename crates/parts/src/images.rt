@@ -1,9 +1,10 @@
-// Images read, and the tables written back; then tables written that need not be sound. A case of the first is two lengths, of
-// the image and of the buffer, two bytes each, and the image; of the second the 1,920 bytes of a table and the buffer's length.
+// Images read, and the tables written back in both versions; then tables written that need not be sound. A case of the first is two lengths, of
+// the image and of the buffer, two bytes each, and the image; of the second the 1,984 bytes of a table and the buffer's length.
 use crate::output;
 use cases::digest;
 use cases::input;
 use image::Loaded;
+use image::Version;
 use table::Table;
 ghost use mathlib.Core.Path.{_≡_};
 ghost use lib.ListN.{length};
@@ -34,12 +35,19 @@ fn read(fd: i32, length: u16) -> Table {
 }
 
 // Writes a table into a buffer that is the start of a larger one, and prints the number and the larger one.
-fn write(t: Table, length: u16) {
+fn write_as(t: Table, length: u16, v: Version) {
     let mut space = untouched();
     let n = io::count(length as isize, &space);
-    let reply = image_out::write(t, &mut space[..n]);
+    let reply = image_out::write(t, &mut space[..n], v);
     output::number(numbers::of_write(reply) as u64);
     output::digest(digest::of_space(&space));
+}
+
+// The same as version 2, and then in the older form.
+fn write(t: Table, length: u16) {
+    write_as(t, length, Version::Two);
+    output::text(b" ");
+    write_as(t, length, Version::One);
 }
 
 pub fn case(fd: i32, number: u64) -> bool {
@@ -57,14 +65,14 @@ pub fn case(fd: i32, number: u64) -> bool {
 }
 
 pub fn raw_case(fd: i32, number: u64) -> bool {
-    let mut bytes = [0u8; 1922];
+    let mut bytes = [0u8; 1986];
     let got = io::read_full(fd, &mut bytes);
-    if got < 1922 {
+    if got < 1986 {
         return false;
     }
     output::number(number);
     let t = input::raw_table(&bytes);
-    write(t, input::short(&bytes, 1920));
+    write(t, input::short(&bytes, 1984));
     output::text(b"\n");
     true
 }

@@ -24,13 +24,13 @@ fn answer(number: u64, s: &[u8]) {
     let t = input::raw_table(s);
     let records = t.records;
     let slots = t.slots;
-    let members = input::set(s, 1920);
+    let members = input::set(s, 1984);
     let whole = links::table_links(t);
     output::number(number);
     output::digest(digest::of_words(&whole));
     let outside = access::start::born_outside(records, members);
     let x = (bounds::lowest(members) % 256) as u8;
-    let words = held(slots, outside, input::entry_list(s, 1928), x);
+    let words = held(slots, outside, input::entry_list(s, 1992), x);
     output::text(b" ");
     output::digest(digest::of_words(&words));
     output::text(b" ");
@@ -41,9 +41,9 @@ fn answer(number: u64, s: &[u8]) {
 }
 
 pub fn case(fd: i32, number: u64) -> bool {
-    let mut bytes = [0u8; 1945];
+    let mut bytes = [0u8; 2009];
     let got = io::read_full(fd, &mut bytes);
-    if got < 1945 {
+    if got < 2009 {
         return false;
     }
     answer(number, &bytes);

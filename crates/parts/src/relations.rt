@@ -1,4 +1,4 @@
-// Potential access. A case is the 1,920 bytes of a table.
+// Potential access. A case is the 1,984 bytes of a table.
 use crate::output;
 use cases::digest;
 use cases::input;
@@ -14,9 +14,9 @@ fn answer(number: u64, s: &[u8]) {
 }
 
 pub fn case(fd: i32, number: u64) -> bool {
-    let mut bytes = [0u8; 1920];
+    let mut bytes = [0u8; 1984];
     let got = io::read_full(fd, &mut bytes);
-    if got < 1920 {
+    if got < 1984 {
         return false;
     }
     answer(number, &bytes);

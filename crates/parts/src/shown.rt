@@ -16,8 +16,8 @@ fn put_numbers(numbers: [u8; 63], count: u8) {
 
 fn answer(number: u64, s: &[u8]) {
     let t = input::raw_table(s);
-    let object = input::byte(s, 1945);
-    let shown = chains::chain(t, input::set(s, 1920), input::entry_list(s, 1928), object);
+    let object = input::byte(s, 2009);
+    let shown = chains::chain(t, input::set(s, 1984), input::entry_list(s, 1992), object);
     let reply = shown.reply;
     let numbers = shown.numbers;
     output::number(number);
@@ -29,9 +29,9 @@ fn answer(number: u64, s: &[u8]) {
 }
 
 pub fn case(fd: i32, number: u64) -> bool {
-    let mut bytes = [0u8; 1946];
+    let mut bytes = [0u8; 2010];
     let got = io::read_full(fd, &mut bytes);
-    if got < 1946 {
+    if got < 2010 {
         return false;
     }
     answer(number, &bytes);

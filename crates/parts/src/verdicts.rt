@@ -1,10 +1,10 @@
-// Confinement tests. A case is the 1,920 bytes of a table, the members (8 bytes), and a list: a count and eight entries.
+// Confinement tests. A case is the 1,984 bytes of a table, the members (8 bytes), and a list: a count and eight entries.
 use crate::output;
 use cases::input;
 
 fn answer(number: u64, s: &[u8]) {
     let t = input::raw_table(s);
-    let tested = confinement::test(t, input::set(s, 1920), input::entry_list(s, 1928));
+    let tested = confinement::test(t, input::set(s, 1984), input::entry_list(s, 1992));
     let verdict = tested.verdict;
     output::number(number);
     output::number(numbers::of_verdict(verdict) as u64);
@@ -14,9 +14,9 @@ fn answer(number: u64, s: &[u8]) {
 }
 
 pub fn case(fd: i32, number: u64) -> bool {
-    let mut bytes = [0u8; 1945];
+    let mut bytes = [0u8; 2009];
     let got = io::read_full(fd, &mut bytes);
-    if got < 1945 {
+    if got < 2009 {
         return false;
     }
     answer(number, &bytes);

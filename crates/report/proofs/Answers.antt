@@ -13,8 +13,9 @@ use Rattle.mask.proofs.Tests.{byCases}
 use Rattle.image.specs.declared.Loaded.{Loaded}
 use Rattle.image.specs.declared.ReadReply.{ReadReply}
 use Rattle.image.specs.declared.ReadReply.the-variants as R
-use Rattle.octets.specs.BigEndian.{numberOf}
-use Rattle.image.specs.Layout.{one, imageLength}
+use Rattle.octets.specs.BigEndian.{byteAt, numberOf}
+use Rattle.image.specs.declared.Version.the-variants.{One}
+use Rattle.image.specs.Layout.{versionByte, imageLength}
 use Rattle.image.specs.Images.{readOf, readNumber}
 use Rattle.bounds.specs.declared.EntryList.{EntryList}
 use Rattle.confinement.specs.declared.Tested.{Tested}
@@ -26,7 +27,7 @@ use Rattle.confinement.specs.Tests.{testOf}
 use Rattle.entries.specs.Entries.{heldEntries}
 use Rattle.entries.proofs.Lists.{test-bytes}
 use Rattle.lines.specs.declared.Decision.{Decision}
-use Rattle.report.specs.Input.{fixedLength, wrongLength, imagePart, membersOf, listOf}
+use Rattle.report.specs.Input.{fixedLength, wrongLength, otherVersion, imagePart, membersOf, listOf}
 use Rattle.report.specs.Decisions.{refusedBy, testDecision, loadedDecision, decisionOf}
 
 -- what is decided --------------------------------------------------------------------------
@@ -40,7 +41,7 @@ module _ (l : Loaded) (input : List ℕ) (why : ℕ) (e : why ≡ readNumber (l 
   unfolding loadedDecision
   loaded-accepted z = rw (ap (λ (x : ℕ). eqb x 0) (sym e) ∙ eq-eqb why 0 z, loadedDecision) refl
 
-  pub loaded-tested : why ≡ 0 → (members : ℕ) → members ≡ numberOf (take 8 (drop (imageLength one) input)) → (list : EntryList) → list ≡ heldEntries (drop fixedLength input)
+  pub loaded-tested : why ≡ 0 → (members : ℕ) → members ≡ numberOf (take 8 (drop (imageLength One) input)) → (list : EntryList) → list ≡ heldEntries (drop fixedLength input)
       → (r : Tested) → r ≡ testOf (l .table) members (entriesOf list) → (n : ℕ) → n ≡ verdictNumber (r .verdict)
       → _≡_ {A = Decision} (record { number = n; bound = r .bound }) (loadedDecision l input)
   unfolding membersOf listOf
@@ -55,9 +56,14 @@ module _ (input : List ℕ) where
   unfolding decisionOf
   decided-refused e = rw (e, decisionOf) refl
 
-  pub decided-loaded : wrongLength input ≡ false → (l : Loaded) → l ≡ readOf (imagePart input) → loadedDecision l input ≡ decisionOf input
+  pub decided-version : wrongLength input ≡ false → byteAt input 2 ≢ versionByte One → refusedBy 15 ≡ decisionOf input
   unfolding decisionOf
-  decided-loaded e l f = rw (e, decisionOf) (ap (λ (x : Loaded). loadedDecision x input) f)
+  decided-version e n = rw (e, ne-eqb _ _ n, decisionOf) refl
+
+  pub decided-loaded : wrongLength input ≡ false → byteAt input 2 ≡ versionByte One → (l : Loaded) → l ≡ readOf (imagePart input)
+      → loadedDecision l input ≡ decisionOf input
+  unfolding decisionOf
+  decided-loaded e v l f = rw (e, eq-eqb _ _ v, decisionOf) (ap (λ (x : Loaded). loadedDecision x input) f)
 
 -- every number has at most two digits -------------------------------------------------
 verdict-small : (v : Verdict) → verdictNumber v < 100
@@ -84,4 +90,6 @@ pub decision-small : (input : List ℕ) → decisionOf input .number < 100
 unfolding decisionOf
 decision-small input = byCases (wrongLength input)
     (λ e. rw (e, decisionOf) (omega arith))
-    (λ e. rw (e, decisionOf) (loaded-small (readOf (imagePart input)) input))
+    (λ e. byCases (otherVersion input)
+    (λ o. rw (e, o, decisionOf) (omega arith))
+    (λ o. rw (e, o, decisionOf) (loaded-small (readOf (imagePart input)) input)))

@@ -1,5 +1,5 @@
 -- What `confine` decides of an input, document 01: a number, 0 for accepted, and the bound, which is empty on every refusal. 17 is checked
--- first, then the image's refusals, then the test's.
+-- first, then 15 "at any other version byte" than 1 (document 02, 2.7), then the image's other refusals, then the test's.
 use mathlib.Core.Bool.{true, false}
 use mathlib.Core.List.{List}
 use Prim.Native.Nat.{ℕ}
@@ -10,7 +10,7 @@ use Rattle.confinement.specs.Tests.{testOf}
 use Rattle.image.specs.declared.Loaded.{Loaded}
 use Rattle.image.specs.Images.{readOf, readNumber}
 use Rattle.lines.specs.declared.Decision.{Decision}
-use Rattle.report.specs.Input.{wrongLength, imagePart, membersOf, listOf}
+use Rattle.report.specs.Input.{wrongLength, otherVersion, imagePart, membersOf, listOf}
 
 -- a refusal, with an empty bound
 abbrev pub refusedBy : ℕ → Decision
@@ -29,4 +29,8 @@ loadedDecision l input =
     ]
 
 unfoldable pub decisionOf : List ℕ → Decision
-decisionOf input = elim (wrongLength input) [ true ↦ refusedBy 17 | false ↦ loadedDecision (readOf (imagePart input)) input ]
+decisionOf input =
+    elim (wrongLength input) [
+      | true ↦ refusedBy 17
+      | false ↦ elim (otherVersion input) [ true ↦ refusedBy 15 | false ↦ loadedDecision (readOf (imagePart input)) input ]
+    ]

@@ -1,4 +1,4 @@
-// What `confine` decides of an input: 17 first, then the image's refusals, then the test's.
+// What `confine` decides of an input: 17 first, then 15 for another version than 1, then the image's other refusals, then the test's.
 use image::Loaded;
 use lines::Decision;
 ghost use mathlib.Core.Path.{_≡_};
@@ -55,6 +55,10 @@ pub fn decide(input: &[u8]) -> Decision
 {
     if wrong_length(input) {
         return refused(17);
+    }
+    let version = input[2];
+    if version != image::HEAD_ONE[2] {
+        return refused(15);
     }
     let loaded = image::read(&input[..1923]);
     decide_loaded(loaded, input)

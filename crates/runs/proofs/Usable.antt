@@ -1,5 +1,5 @@
--- A table that was brought in can be tested, stepped and stored, `import-usable`: it is sound and a table value, and then no check gives 1 and its
--- image reads back. Assumes nothing.
+-- A table that was brought in can be tested, stepped and stored, `import-usable`: it is sound and a table value, nobody in it was made in a run,
+-- and then no check gives 1 and its image reads back in either version. Assumes nothing.
 use mathlib.Core.Path.{_≡_, refl, ap}
 use mathlib.Core.Logic.{_≢_}
 use mathlib.Core.Bool.{true}
@@ -22,12 +22,14 @@ use Rattle.confinement.proofs.Verdicts.{verdict-never-one, test-never-one}
 use Rattle.chains.specs.Answers.{chainNumber, badObject, objectReply, chainReply, chainOf}
 use Rattle.image_out.specs.Written.{writeNumber}
 use Rattle.image_out.proofs.Left.{write-done}
-use Rattle.image_out.proofs.RoundTrip.{read-written}
+use Rattle.image_out.specs.Exactness.{Unmade}
+use Rattle.image_out.proofs.RoundTrip.{reads-back, unmade-kept}
 use Rattle.isolation.proofs.RunSound.{sound-never-one}
 use Rattle.wire.specs.Wires.{askFrom}
 use Rattle.entries.specs.Entries.{entriesIn}
 use Rattle.take_grant.specs.Imports.{importOf}
-use Rattle.take_grant.proofs.Claims.{import-is-table, import-is-sound}
+use Rattle.take_grant.specs.Exactness.{NobodyMade}
+use Rattle.take_grant.proofs.Claims.{import-is-table, import-is-sound, nobody-made-any}
 use Rattle.captable.specs.Crossing.{loaded}
 use Rattle.runs.specs.Usable.{Usable, ImportUsable}
 
@@ -48,18 +50,18 @@ module _ (t : Table) (e : sound t ≡ true) (members : ℕ) (list : List Capabil
   unfolding chainOf
   chain-not = byCases (eqb (chainNumber (chainReply t members list object)) 0) (λ a. rw (a, chainOf) (λ z. omega arith)) (λ a. rw (a, chainOf) reply-not)
 
-usable : (t : Table) → IsTable t → sound t ≡ true → Usable t
+usable : (t : Table) → IsTable t → sound t ≡ true → Unmade t → Usable t
 unfolding stepOf accessOf
-usable t z e = record {
+usable t z e u = record {
   sound = rw e refl;
   tested = λ members list. test-never-one t e members (entriesIn list);
   shown = λ members list object. chain-not t e members (entriesIn list) object;
   related = rw (e, accessOf) refl;
   asked = λ request. sound-never-one t (askFrom request) e;
-  written = λ buffer h. ap writeNumber (write-done t buffer e h);
-  read-back = λ buffer h. ap loaded (read-written t z e buffer h);
+  written = λ v buffer h. ap writeNumber (write-done v t buffer e (unmade-kept v t u) h);
+  read-back = λ v buffer h. ap loaded (reads-back v t z (unmade-kept v t u) e buffer h);
 }
 
 pub import-usable : ImportUsable
-unfolding ImportUsable
-import-usable bytes = usable (importOf bytes .table) (import-is-table bytes) (import-is-sound bytes)
+unfolding ImportUsable NobodyMade
+import-usable bytes = usable (importOf bytes .table) (import-is-table bytes) (import-is-sound bytes) (nobody-made-any bytes)

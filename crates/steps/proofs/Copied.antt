@@ -69,8 +69,8 @@ module _ (t : Table) (a n k p i : ℕ) (list : List Pair) (j : ℕ) (it : IsTabl
       let f = sound-done t (allocate a n k p i list) it d in
       let unborn : statusAt t n ≡ 0 = f .stocks a n (g .number) (g .share .held) in
       let less = withStock (recordAt t a) (stockLess n p (stockAt t a)) in
-      let v = putRecord (putRecord t a less) n (made k p) in
-      let z = sized-putRecord (putRecord t a less) n (made k p) (sized-putRecord t a less (f .size)) in
+      let v = putRecord (putRecord t a less) n (made a k p) in
+      let z = sized-putRecord (putRecord t a less) n (made a k p) (sized-putRecord t a less (f .size)) in
       slot-other (copyPairs v (slotAt t a) n list) a i n j (fullOver n) (g .slot) hj (λ e. absurd (omega (arith, unborn, rw (← e) at (g .alive))))
       ∙ wins (slotAt t a) n j (g .number) hj v list z (list-in list (g .list) .1)
       ∙ ap (λ (c : Capability). lastFilled (slotAt t a) j c list) (bare-slot t n f unborn j hj)

@@ -25,10 +25,10 @@ use Rattle.steps.proofs.Refused.{refused-keeps, done-effects}
 
 -- what is put: records ------------------------------------------------------------------------
 word-value : (t : Table) (n w : ℕ) → IsTable t → w < 2 ^ 32 → RecordValue (withWord (recordAt t n) w)
-word-value t n w z h = record-value (withWord (recordAt t n) w) (z .statuses n) (z .kinds n) h (z .stocks n)
+word-value t n w z h = record-value (withWord (recordAt t n) w) (z .statuses n) (z .kinds n) (z .makers n) h (z .stocks n)
 
 stock-value : (t : Table) (n s : ℕ) → IsTable t → s < 2 ^ 64 → RecordValue (withStock (recordAt t n) s)
-stock-value t n s z h = record-value (withStock (recordAt t n) s) (z .statuses n) (z .kinds n) (z .words n) h
+stock-value t n s z h = record-value (withStock (recordAt t n) s) (z .statuses n) (z .kinds n) (z .makers n) (z .words n) h
 
 less-lt : (n part stock : ℕ) → stockLess n part stock < 2 ^ 64
 unfolding stockLess lessOf
@@ -81,12 +81,12 @@ effect-keeps t (send a s w l y) z h =
     answer-keeps _ g y a (pairs-keep _ (slotAt t a) g l told (λ j. slot-of t z (a * 8 + j))) (h .0)
 effect-keeps t (allocate a n k p i l) z h =
     let less = table-putRecord t a _ z (stock-value t a _ z (less-lt n p (recordAt t a .stock))) in
-    let born = table-putRecord _ n (made k p) less (record-value (made k p) (omega arith) (h .2) (omega arith) (h .3)) in
+    let born = table-putRecord _ n (made a k p) less (record-value (made a k p) (omega arith) (h .2) (h .0) (omega arith) (h .3)) in
     let filled = pairs-keep _ (slotAt t a) n l born (λ j. slot-of t z (a * 8 + j)) in
     table-putSlot _ a i (fullOver n) filled (slot-value (fullOver n) (h .1) (omega arith))
 effect-keeps t (destroy a s) z h =
     let g = targetOf t a s in
-    let dead = record-value (died (recordAt t g)) (omega arith) (z .kinds g) (omega arith) (omega arith) in
+    let dead = record-value (died (recordAt t g)) (omega arith) (z .kinds g) (z .makers g) (omega arith) (omega arith) in
     table-putRecord _ a _ (table-putRecord _ g _ (clear-keeps t g 8 z) dead) (stock-value t a _ z (union-lt _ _))
 effect-keeps t (unknown c a) z h = z
 

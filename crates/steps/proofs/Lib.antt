@@ -1,5 +1,5 @@
 -- The mathematics that the proofs of this crate share, each module over those above it; what is known of a request that was answered
--- 0; which requests empty a slot; and what is copied where.
+-- 0; which requests empty a slot; what is copied where; and who writes a maker.
 pub mod Refused
 pub mod Ways
 pub mod Uses
@@ -7,3 +7,4 @@ pub mod Kept
 pub mod Granted
 pub mod Emptying
 pub mod Copied
+pub mod Makers

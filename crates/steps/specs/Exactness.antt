@@ -1,15 +1,16 @@
--- What is claimed of slots that a request keeps or empties, as statements about the table after it; proofs/Emptying.antt proves them, and
--- proofs/Copied.antt the last two.
+-- What is claimed of slots that a request keeps or empties, and of makers, as statements about the table after it; proofs/Emptying.antt proves
+-- them, proofs/Copied.antt those on what a slot then holds, and proofs/Makers.antt the last two.
 -- Document 02, 2.4: "a copy that comes out empty, from an empty slot or from weakening, changes no slot. This holds in fetch, store,
 -- send and allocate; revoke alone empties a slot of an alive object". Slots are numbered 0 to 7; what would be slot 8 of an object is
 -- slot 0 of the next.
 use mathlib.Core.Path.{_≡_}
+use mathlib.Core.Logic.{_≢_}
 use mathlib.Core.Bool.{true, false}
 use mathlib.Core.List.{List}
 use Prim.Native.Nat.{ℕ, _<_}
 use lib.Dec.{eqb}
 use Rattle.table.specs.declared.Table.{Table}
-use Rattle.table.specs.Cells.{IsTable, emptySlot, recordAt, slotAt, isEmpty, isAlive, hasRd, hasWk}
+use Rattle.table.specs.Cells.{IsTable, emptySlot, recordAt, slotAt, makerAt, isEmpty, isAlive, hasRd, hasWk}
 use Rattle.requests.specs.declared.Pair.{Pair}
 use Rattle.requests.specs.Asks.{Ask, fetch, store, revoke, send, allocate}
 use Rattle.refusals.specs.Replies.{isDone}
@@ -67,3 +68,22 @@ SentSlots = (tb : Table) (a t word : ℕ) (list : List Pair) (reply j : ℕ) →
 unfoldable pub MadeSlots : Type 0
 MadeSlots = (tb : Table) (a n kind part i : ℕ) (list : List Pair) (j : ℕ) → IsTable tb → j < 8 → isDone (refusal tb (allocate a n kind part i list)) ≡ true
     → slotAt (after tb (allocate a n kind part i list)) n j ≡ lastFilled (slotAt tb a) j emptySlot list
+
+-- Document 02, 2.7: a record's maker is "the number of the object that made it". An allocate that is done, of number n
+pub record AllocateDone (tb : Table) (q : Ask) (n : ℕ) : Type 0 where
+  pub actor : ℕ
+  pub kind : ℕ
+  pub part : ℕ
+  pub slot : ℕ
+  pub list : List Pair
+  pub asked : q ≡ allocate actor n kind part slot list
+  pub done : isDone (refusal tb q) ≡ true
+
+-- it writes its actor into the new record
+unfoldable pub MakerWritten : Type 0
+MakerWritten = (tb : Table) (q : Ask) (n : ℕ) → IsTable tb → (d : AllocateDone tb q n) → makerAt (after tb q) n ≡ d .actor
+
+-- and nothing else touches the byte: for every table and request, a maker that is another one after it was written by an allocate that was
+-- done, of that very object. So "a dead one keeps its byte"
+unfoldable pub OnlyAllocateWrites : Type 0
+OnlyAllocateWrites = (tb : Table) (q : Ask) (n : ℕ) → makerAt (after tb q) n ≢ makerAt tb n → AllocateDone tb q n

@@ -11,7 +11,7 @@ use Rattle.table.specs.declared.Capability.{Capability}
 use Rattle.table.specs.declared.Record.{Record}
 use Rattle.table.specs.declared.Table.{Table}
 use Rattle.table.proofs.Lists.{put-any}
-use Rattle.table.specs.Cells.{IsTable, recordAt, slotAt, putRecord, putSlot, emptySlot, unbornRecord}
+use Rattle.table.specs.Cells.{IsTable, recordAt, slotAt, putRecord, putSlot, emptySlot, noRecord}
 
 -- two tables are the same if their lists are
 pub tables-same : {a b : List Record} {c d : List Capability} → a ≡ b → c ≡ d → _≡_ {A = Table} (record { records = a; slots = c }) (record { records = b; slots = d })
@@ -32,10 +32,10 @@ pub sized-putRecord : (t : Table) (n : ℕ) (r : Record) → Sized t → Sized (
 sized-putRecord t n r z = record { records = length-set (t .records) n r ∙ z .records; slots = z .slots }
 
 pub record-same : (t : Table) (n : ℕ) (r : Record) → Sized t → n < 64 → recordAt (putRecord t n r) n ≡ r
-record-same t n r z h = getD-set-same (t .records) n r unbornRecord (omega (arith, z .records))
+record-same t n r z h = getD-set-same (t .records) n r noRecord (omega (arith, z .records))
 
 pub record-other : (t : Table) (n m : ℕ) (r : Record) → m ≢ n → recordAt (putRecord t n r) m ≡ recordAt t m
-record-other t n m r h = getD-set-other (t .records) n m r unbornRecord h
+record-other t n m r h = getD-set-other (t .records) n m r noRecord h
 
 pub slot-same : (t : Table) (n j : ℕ) (c : Capability) → Sized t → n < 64 → j < 8 → slotAt (putSlot t n j c) n j ≡ c
 slot-same t n j c z h g = getD-set-same (t .slots) (n * 8 + j) c emptySlot (omega (arith, z .slots))
@@ -67,8 +67,8 @@ pub slot-put-at : (P : Capability → Type 0) (t : Table) (n j m k : ℕ) (c : C
 slot-put-at P t n j m k c new old = put-any P (t .slots) (n * 8 + j) (m * 8 + k) c emptySlot new old
 
 -- past the end nothing is born and no slot is filled
-pub record-high : (t : Table) (n : ℕ) → Sized t → 64 ≤ n → recordAt t n ≡ unbornRecord
-record-high t n z h = List·getD-eq-default (t .records) unbornRecord (omega (arith, z .records))
+pub record-high : (t : Table) (n : ℕ) → Sized t → 64 ≤ n → recordAt t n ≡ noRecord
+record-high t n z h = List·getD-eq-default (t .records) noRecord (omega (arith, z .records))
 
 pub slot-high : (t : Table) (n j : ℕ) → Sized t → 64 ≤ n → slotAt t n j ≡ emptySlot
 slot-high t n j z h = List·getD-eq-default (t .slots) emptySlot (omega (arith, z .slots))

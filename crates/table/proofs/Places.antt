@@ -21,7 +21,7 @@ module _ {A : Type 0} (P : A → Type 0) (d : A) where
   at-tabulate (suc n) f zero within past = within
   at-tabulate (suc n) f (suc k) within past = at-tabulate n (λ i. f (suc i)) k within past
 
-  pub at-replicate : (n k : ℕ) → P d → P (getD (replicate n d) k d)
-  at-replicate zero k h = h
-  at-replicate (suc n) zero h = h
-  at-replicate (suc n) (suc k) h = at-replicate n k h
+  pub at-replicate : (a : A) (n k : ℕ) → P a → P d → P (getD (replicate n a) k d)
+  at-replicate a zero k within past = past
+  at-replicate a (suc n) zero within past = within
+  at-replicate a (suc n) (suc k) within past = at-replicate a n k within past

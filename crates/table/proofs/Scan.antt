@@ -15,9 +15,9 @@ use Rattle.mask.proofs.UpTo.{upTo, up-all}
 use Rattle.mask.proofs.Bits.{has-bits, bits-lt, has-union, has-high, disjoint-at}
 use Rattle.table.specs.declared.Record.{Record}
 use Rattle.table.specs.declared.Table.{Table}
-use Rattle.table.specs.Cells.{recordAt, slotAt, stockAt, unbornRecord, isBorn, bornAt}
-use Rattle.table.specs.Soundness.{recordSound, idleSlotSound, filledSound, slotSound, stockSound, soundAt, sound}
-use Rattle.table.proofs.SoundFacts.{record-fine, born-pos, pos-born, sound-at, at-sound, fine-stock, stock-fine}
+use Rattle.table.specs.Cells.{recordAt, slotAt, makerAt, stockAt, noRecord, isBorn, bornAt}
+use Rattle.table.specs.Soundness.{recordSound, makerSound, idleSlotSound, filledSound, slotSound, stockSound, soundAt, sound}
+use Rattle.table.proofs.SoundFacts.{record-fine, born-pos, pos-born, makerSoundAt, sound-at, at-sound, fine-stock, stock-fine}
 
 -- the born numbers -----------------------------------------------------------------------
 unfoldable pub bornSet : Table → ℕ
@@ -32,7 +32,7 @@ unfolding bornSet
 has-born t x long = byCases (ltb x 64)
     (λ e. has-bits 64 x (bornAt t) (ltb-true x 64 e))
     (λ e. let h = ltb-false x 64 e in has-high x (bits 64 (bornAt t)) 64 (bits-lt 64 (bornAt t)) h
-    ∙ sym (ap isBorn (List·getD-eq-default (t .records) unbornRecord (omega arith))))
+    ∙ sym (ap isBorn (List·getD-eq-default (t .records) noRecord (omega arith))))
 
 -- the numbers that no further stock may have, when the scan is at n ---------------------
 unfoldable pub takenBelow : Table → ℕ → ℕ
@@ -67,13 +67,14 @@ free-at t (suc n) k hk e m h =
 
 -- what the scan has shown of a record that it has passed -----------------------------------
 abbrev pub opens : Table → ℕ → Bool
-opens t n = recordSound (recordAt t n) && disjointOf (stockAt t n) (takenBelow t n)
+opens t n = recordSound (recordAt t n) && makerSoundAt t n && disjointOf (stockAt t n) (takenBelow t n)
 
 unfoldable pub goodAt : Table → ℕ → Bool
 goodAt t n = opens t n && allBelow 8 (slotSound t n)
 
 record Good (t : Table) (n : ℕ) : Type 0 where
   alone : recordSound (recordAt t n) ≡ true
+  maker : makerSoundAt t n ≡ true
   fresh : (k : ℕ) → k < 64 → has k (stockAt t n) ≡ true → has k (takenBelow t n) ≡ false
   slots : allBelow 8 (slotSound t n) ≡ true
 
@@ -81,13 +82,15 @@ good-facts : (t : Table) (n : ℕ) → goodAt t n ≡ true → Good t n
 unfolding goodAt
 good-facts t n e =
     let p = and-true (opens t n) (allBelow 8 (slotSound t n)) e in
-    let q = and-true (recordSound (recordAt t n)) (disjointOf (stockAt t n) (takenBelow t n)) (p .0) in
-    record { alone = q .0; fresh = λ k. disjoint-at (stockAt t n) (takenBelow t n) k (q .1); slots = p .1 }
+    let q = and-true (recordSound (recordAt t n) && makerSoundAt t n) (disjointOf (stockAt t n) (takenBelow t n)) (p .0) in
+    let r = and-true (recordSound (recordAt t n)) (makerSoundAt t n) (q .0) in
+    record { alone = r .0; maker = r .1; fresh = λ k. disjoint-at (stockAt t n) (takenBelow t n) k (q .1); slots = p .1 }
 
 facts-good : (t : Table) (n : ℕ) → Good t n → goodAt t n ≡ true
 unfolding goodAt disjointOf
 facts-good t n g = and-intro (opens t n) (allBelow 8 (slotSound t n))
-    (and-intro (recordSound (recordAt t n)) (disjointOf (stockAt t n) (takenBelow t n)) (g .alone)
+    (and-intro (recordSound (recordAt t n) && makerSoundAt t n) (disjointOf (stockAt t n) (takenBelow t n))
+    (and-intro (recordSound (recordAt t n)) (makerSoundAt t n) (g .alone) (g .maker))
     (all-intro 64 _ (λ k hk. apart-intro (has k (stockAt t n)) (has k (takenBelow t n)) (g .fresh k hk))))
     (g .slots)
 
@@ -104,6 +107,7 @@ scan-is t = bool-ext (allBelow 64 (goodAt t)) (allBelow 64 (soundAt t))
     (λ e. let g : (n : ℕ) → n < 64 → Good t n = λ n h. good-facts t n (all-at 64 (goodAt t) e n h) in
     all-intro 64 (soundAt t) (λ n h. at-sound t n (record {
       alone = g n h .alone;
+      maker = g n h .maker;
       slots = g n h .slots;
       stock = all-intro 64 (stockSound t n) (λ k hk. fine-stock t n k
           (λ q. unborn (recordAt t k) (g k hk .alone) (free-born t n k hk (g n h .fresh k hk q)))
@@ -116,6 +120,7 @@ scan-is t = bool-ext (allBelow 64 (goodAt t)) (allBelow 64 (soundAt t))
     (λ e. all-intro 64 (goodAt t) (λ n h. let s = sound-at t n (all-at 64 (soundAt t) e n h) in
     facts-good t n (record {
       alone = s .alone;
+      maker = s .maker;
       fresh = λ k hk q. let f = stock-fine t n k (all-at 64 (stockSound t n) (s .stock) k hk) q in
           free t n k hk (not-born (recordAt t k) (f .0)) (λ m l. f .1 m (omega arith) (omega arith));
       slots = s .slots;
@@ -141,10 +146,18 @@ unfolding goodAt
 good-more t n j e o h l s = let q : j ≡ 8 = omega arith in all-more n (goodAt t) e (and-intro (opens t n) (allBelow 8 (slotSound t n)) o (rw q at s))
 
 -- what the calls of a turn found ---------------------------------------------------------------------
-pub opens-is : (t : Table) (n taken : ℕ) (a b : Bool) → taken ≡ takenBelow t n → a ≡ recordSound (recordAt t n) → b ≡ disjointOf (stockAt t n) taken → (a && b) ≡ opens t n
-opens-is t n taken a b p q r = ap₂ (λ (x y : Bool). x && y) q (r ∙ ap (disjointOf (stockAt t n)) p)
+module _ (t : Table) (long : length (t .records) ≡ 64) where
+  -- a number is born by the set that the scan goes by
+  is-born : (m born : ℕ) → born ≡ bornSet t → has m born ≡ bornAt t m
+  is-born m born p = ap (has m) p ∙ has-born t m long
 
-pub slot-is : (t : Table) (n j born : ℕ) (h b : Bool) → length (t .records) ≡ 64 → born ≡ bornSet t → h ≡ has (slotAt t n j .target) born
-    → b ≡ (idleSlotSound (recordAt t n) (slotAt t n j) && filledSound h (slotAt t n j)) → b ≡ slotSound t n j
-slot-is t n j born h b long p q r = r ∙ ap (λ (x : Bool). idleSlotSound (recordAt t n) (slotAt t n j) && filledSound x (slotAt t n j))
-    (q ∙ ap (has (slotAt t n j .target)) p ∙ has-born t (slotAt t n j .target) long)
+  pub opens-is : (n born taken : ℕ) (a m b : Bool) → born ≡ bornSet t → taken ≡ takenBelow t n → a ≡ recordSound (recordAt t n)
+      → m ≡ makerSound (recordAt t n) (has (makerAt t n) born) → b ≡ disjointOf (stockAt t n) taken → (a && m && b) ≡ opens t n
+  opens-is n born taken a m b s p q f r =
+      ap₂ (λ (x y : Bool). x && y) (ap₂ (λ (x y : Bool). x && y) q (f ∙ ap (makerSound (recordAt t n)) (is-born (makerAt t n) born s)))
+      (r ∙ ap (disjointOf (stockAt t n)) p)
+
+  pub slot-is : (n j born : ℕ) (h b : Bool) → born ≡ bornSet t → h ≡ has (slotAt t n j .target) born
+      → b ≡ (idleSlotSound (recordAt t n) (slotAt t n j) && filledSound h (slotAt t n j)) → b ≡ slotSound t n j
+  slot-is n j born h b p q r = r ∙ ap (λ (x : Bool). idleSlotSound (recordAt t n) (slotAt t n j) && filledSound x (slotAt t n j))
+      (q ∙ is-born (slotAt t n j .target) born p)

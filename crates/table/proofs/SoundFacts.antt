@@ -2,11 +2,11 @@
 -- facts; contracts use the test. Assumes nothing.
 use mathlib.Core.Path.{_≡_, refl, sym, _∙_, ap}
 use mathlib.Core.Logic.{_≢_}
-use mathlib.Core.Bool.{true, false, not, _&&_}
+use mathlib.Core.Bool.{Bool, true, false, not, _&&_}
 use Prim.Native.Nat.{ℕ, _≤_, _<_}
 use native.Mathlib.Omega.{arith}
 use lib.Dec.{leb, ltb, eqb}
-use borrow.Author.Tests.{ltb-true, ltb-false, leb-true, eqb-true, le-leb, eq-eqb, not-true, not-false}
+use borrow.Author.Tests.{ltb-true, ltb-false, leb-true, eqb-true, le-leb, eq-eqb, ne-eqb, not-true, not-false}
 use Rattle.mask.specs.Sets.{has, allBelow}
 use Rattle.mask.proofs.Tests.{byCases, byEq, clash, bool-ext, and-true, and-intro, or-cases, or-left, or-right, imply-intro, imply-use}
 use Rattle.mask.proofs.Below.{all-at, all-intro}
@@ -14,8 +14,8 @@ use Rattle.mask.proofs.Bits.{has-zero}
 use Rattle.table.specs.declared.Capability.{Capability}
 use Rattle.table.specs.declared.Record.{Record}
 use Rattle.table.specs.declared.Table.{Table}
-use Rattle.table.specs.Cells.{recordAt, slotAt, statusAt, stockAt, emptySlot, isAlive, isDead, isUnborn, isBorn, isEmpty}
-use Rattle.table.specs.Soundness.{valuesSound, unbornSound, idleSound, idleSlotSound, recordSound, filledSound, slotSound, stockSound, soundAt, sound}
+use Rattle.table.specs.Cells.{noMaker, recordAt, slotAt, statusAt, makerAt, stockAt, emptySlot, isAlive, isDead, isUnborn, isBorn, bornAt, isEmpty}
+use Rattle.table.specs.Soundness.{valuesSound, unbornSound, idleSound, idleSlotSound, recordSound, makerSound, filledSound, slotSound, stockSound, soundAt, sound}
 use Rattle.table.proofs.Cells.{Sized, record-high, slot-high}
 
 pub record RecordFine (r : Record) : Type 0 where
@@ -23,6 +23,11 @@ pub record RecordFine (r : Record) : Type 0 where
   pub sort : r .kind ≤ 1
   pub still : r .status ≢ 1 → (r .word ≡ 0) × (r .stock ≡ 0)
   pub plain : r .status ≡ 0 → r .kind ≡ 0
+
+-- the maker of a record with the status a; the maker itself has the status b
+pub record MakerFine (a b m : ℕ) : Type 0 where
+  pub alone : a ≡ 0 → m ≡ noMaker
+  pub born : m ≢ noMaker → 1 ≤ b
 
 -- a slot whose holder has the status a and whose target has the status b
 pub record SlotFine (a b : ℕ) (c : Capability) : Type 0 where
@@ -34,6 +39,7 @@ pub record SlotFine (a b : ℕ) (c : Capability) : Type 0 where
 pub record Sound (t : Table) : Type 0 where
   pub size : Sized t
   pub records : (n : ℕ) → RecordFine (recordAt t n)
+  pub makers : (n : ℕ) → n < 64 → MakerFine (statusAt t n) (statusAt t (makerAt t n)) (makerAt t n)
   pub slots : (n j : ℕ) → j < 8 → SlotFine (statusAt t n) (statusAt t (slotAt t n j .target)) (slotAt t n j)
   pub stocks : (n k : ℕ) → k < 64 → has k (stockAt t n) ≡ true → statusAt t k ≡ 0
   pub apart : (n m k : ℕ) → k < 64 → has k (stockAt t n) ≡ true → has k (stockAt t m) ≡ true → n ≡ m
@@ -101,6 +107,29 @@ module _ (r : Record) where
         let low = f .low in
         and-intro (eqb (r .status) 2) (leb (r .kind) 1) (eq-eqb (r .status) 2 (omega arith)) (le-leb _ 1 (f .sort)))
 
+-- a maker ---------------------------------------------------------------------------------
+pub maker-fine : (r s : Record) → makerSound r (isBorn s) ≡ true → MakerFine (r .status) (s .status) (r .maker)
+maker-fine r s e =
+    let p : r .maker ≢ noMaker → (not (isUnborn r) && isBorn s) ≡ true
+    = λ n. or-cases (eqb (r .maker) noMaker) _ e (λ q. absurd (n (eqb-true _ noMaker q))) (λ q. q) in
+    record {
+      alone = λ u. byEq (r .maker) noMaker (λ q. q) (λ q. clash (eq-eqb _ 0 u) (not-true _ (and-true (not (isUnborn r)) (isBorn s) (p q) .0)));
+      born = λ n. born-pos s (and-true (not (isUnborn r)) (isBorn s) (p n) .1);
+    }
+
+-- the test by the maker: nobody's, somebody's
+pub unmade-maker : (r : Record) (b : Bool) → r .maker ≡ noMaker → true ≡ makerSound r b
+unmade-maker r b e = sym (or-left (eqb (r .maker) noMaker) (not (isUnborn r) && b) (eq-eqb _ noMaker e))
+
+pub made-maker : (r : Record) (b : Bool) → r .maker ≢ noMaker → (not (isUnborn r) && b) ≡ makerSound r b
+made-maker r b e = sym (rw (ne-eqb (r .maker) noMaker e) refl)
+
+fine-maker : (r s : Record) → s .status ≤ 2 → MakerFine (r .status) (s .status) (r .maker) → makerSound r (isBorn s) ≡ true
+fine-maker r s l f = byEq (r .maker) noMaker
+    (λ e. or-left (eqb (r .maker) noMaker) _ (eq-eqb _ noMaker e))
+    (λ e. or-right (eqb (r .maker) noMaker) _ (and-intro (not (isUnborn r)) (isBorn s)
+    (byCases (isUnborn r) (λ u. absurd (e (f .alone (eqb-true _ 0 u)))) (λ u. ap not u)) (pos-born s l (f .born e))))
+
 -- a slot --------------------------------------------------------------------------------
 empty-fine : (a b : ℕ) (c : Capability) → isEmpty c ≡ true → SlotFine a b c
 empty-fine a b c e =
@@ -154,27 +183,34 @@ stock-fine t n k e h =
     let p = and-true (isUnborn (recordAt t k)) _ (imply-use (has k (stockAt t n)) _ e h) in
     (eqb-true _ 0 (p .0), λ m l d. or-cases (eqb m n) _ (all-at 64 _ (p .1) m l) (λ q. absurd (d (eqb-true m n q))) (λ q. not-true _ q))
 
+abbrev pub makerSoundAt : Table → ℕ → Bool
+makerSoundAt t n = makerSound (recordAt t n) (bornAt t (makerAt t n))
+
 pub record SoundAt (t : Table) (n : ℕ) : Type 0 where
   pub alone : recordSound (recordAt t n) ≡ true
+  pub maker : makerSoundAt t n ≡ true
   pub slots : allBelow 8 (slotSound t n) ≡ true
   pub stock : allBelow 64 (stockSound t n) ≡ true
 
 pub sound-at : (t : Table) (n : ℕ) → soundAt t n ≡ true → SoundAt t n
 unfolding soundAt
 sound-at t n e =
-    let p = and-true (recordSound (recordAt t n) && allBelow 8 (slotSound t n)) (allBelow 64 (stockSound t n)) e in
-    let q = and-true (recordSound (recordAt t n)) (allBelow 8 (slotSound t n)) (p .0) in
-    record { alone = q .0; slots = q .1; stock = p .1 }
+    let p = and-true (recordSound (recordAt t n) && makerSoundAt t n && allBelow 8 (slotSound t n)) (allBelow 64 (stockSound t n)) e in
+    let q = and-true (recordSound (recordAt t n) && makerSoundAt t n) (allBelow 8 (slotSound t n)) (p .0) in
+    let r = and-true (recordSound (recordAt t n)) (makerSoundAt t n) (q .0) in
+    record { alone = r .0; maker = r .1; slots = q .1; stock = p .1 }
 
 pub at-sound : (t : Table) (n : ℕ) → SoundAt t n → soundAt t n ≡ true
 unfolding soundAt
-at-sound t n s = and-intro (recordSound (recordAt t n) && allBelow 8 (slotSound t n)) (allBelow 64 (stockSound t n))
-    (and-intro (recordSound (recordAt t n)) (allBelow 8 (slotSound t n)) (s .alone) (s .slots)) (s .stock)
+at-sound t n s = and-intro (recordSound (recordAt t n) && makerSoundAt t n && allBelow 8 (slotSound t n)) (allBelow 64 (stockSound t n))
+    (and-intro (recordSound (recordAt t n) && makerSoundAt t n) (allBelow 8 (slotSound t n))
+    (and-intro (recordSound (recordAt t n)) (makerSoundAt t n) (s .alone) (s .maker)) (s .slots)) (s .stock)
 
 pub sound-true : (t : Table) → Sound t → sound t ≡ true
 unfolding sound
 sound-true t d = all-intro 64 (soundAt t) (λ n h. at-sound t n (record {
   alone = fine-record _ (d .records n);
+  maker = fine-maker (recordAt t n) (recordAt t (makerAt t n)) (d .records (makerAt t n) .low) (d .makers n h);
   slots = all-intro 8 _ (λ j g. let y = slotAt t n j .target in fine-slot (recordAt t n) (recordAt t y) (slotAt t n j) (d .records y .low) (d .slots n j g));
   stock = all-intro 64 _ (λ k g. fine-stock t n k (d .stocks n k g)
       (λ m l q e. byCases (has k (stockAt t m)) (λ w. absurd (q (d .apart m n k g w e))) (λ w. w)));
@@ -197,6 +233,7 @@ module _ (t : Table) (z : Sized t) (e : sound t ≡ true) where
     size = z;
     records = λ n. below-or n (λ h. record-fine _ (each n h .alone))
         (λ h. rw (record-high t n z h) (record { low = omega arith; sort = omega arith; still = λ q. (refl, refl); plain = λ q. refl }));
+    makers = λ n h. maker-fine (recordAt t n) (recordAt t (makerAt t n)) (each n h .maker);
     slots = λ n j hj. below-or n (λ h. slot-fine (recordAt t n) (recordAt t (slotAt t n j .target)) (slotAt t n j) (all-at 8 (slotSound t n) (each n h .slots) j hj))
         (λ h. rw (slot-high t n j z h) (empty-fine _ _ emptySlot refl));
     stocks = λ n k hk h. stock-fine t n k (all-at 64 _ (each n (low-stock n k h) .stock) k hk) h .0;

@@ -15,7 +15,7 @@ use denote.Struct.Laws as LL
 use Rattle.table.specs.declared.Capability.{Capability}
 use Rattle.table.specs.declared.Record.{Record}
 use Rattle.table.specs.declared.Table.{Table}
-use Rattle.table.specs.Cells.{IsTable, recordAt, putRecord, putSlot, emptySlot, unbornRecord, unbornTable}
+use Rattle.table.specs.Cells.{IsTable, recordAt, putRecord, putSlot, emptySlot, noRecord, unbornRecord, unbornTable}
 use Rattle.table.proofs.Capability as C
 use Rattle.table.proofs.Capability.Laws as C′
 use Rattle.table.proofs.Record as R
@@ -46,14 +46,17 @@ abbrev pub SlotValue : Capability → Type 0
 SlotValue c = ValueOf C.the-type c
 
 -- each is what has its fields within their bits
-pub record-value : (r : Record) → r .status < 2 ^ 8 → r .kind < 2 ^ 8 → r .word < 2 ^ 32 → r .stock < 2 ^ 64 → RecordValue r
-record-value r s k w p = (_, LL.owes R.the-type R′.the-laws r ((refl, s), ((refl, k), ((refl, w), ((refl, p), tt)))))
+pub record-value : (r : Record) → r .status < 2 ^ 8 → r .kind < 2 ^ 8 → r .maker < 2 ^ 8 → r .word < 2 ^ 32 → r .stock < 2 ^ 64 → RecordValue r
+record-value r s k m w p = (_, LL.owes R.the-type R′.the-laws r ((refl, s), ((refl, k), ((refl, m), ((refl, w), ((refl, p), tt))))))
 
 pub slot-value : (c : Capability) → c .target < 2 ^ 8 → c .rights < 2 ^ 8 → SlotValue c
 slot-value c g r = (_, LL.owes C.the-type C′.the-laws c ((refl, g), ((refl, r), tt)))
 
+pub none-value : RecordValue noRecord
+none-value = record-value noRecord (omega arith) (omega arith) (omega arith) (omega arith) (omega arith)
+
 pub unborn-value : RecordValue unbornRecord
-unborn-value = record-value unbornRecord (omega arith) (omega arith) (omega arith) (omega arith)
+unborn-value = record-value unbornRecord (omega arith) (omega arith) (omega arith) (omega arith) (omega arith)
 
 pub empty-value : SlotValue emptySlot
 empty-value = slot-value emptySlot (omega arith) (omega arith)
@@ -75,8 +78,9 @@ values-are-table t long wide object slot = record {
   slots = wide;
   statuses = λ n. object n .1 .1 .1 .0 .1;
   kinds = λ n. object n .1 .1 .1 .1 .0 .1;
-  words = λ n. object n .1 .1 .1 .1 .1 .0 .1;
-  stocks = λ n. object n .1 .1 .1 .1 .1 .1 .0 .1;
+  makers = λ n. object n .1 .1 .1 .1 .1 .0 .1;
+  words = λ n. object n .1 .1 .1 .1 .1 .1 .0 .1;
+  stocks = λ n. object n .1 .1 .1 .1 .1 .1 .1 .0 .1;
   targets = λ k. slot k .1 .1 .1 .0 .1;
   rights = λ k. slot k .1 .1 .1 .1 .0 .1;
 }
@@ -85,24 +89,24 @@ pub value-is-table : (t : Table) (vs : List Val) → Is T.the-row t vs → IsTab
 value-is-table t vs is =
     let o = LL.owed T.the-type T′.the-laws t vs is in
     values-are-table t (records-long t vs is) (slots-long t vs is)
-    (element-value R.the-type unbornRecord unborn-value (t .records) (o .0 .0) (o .0 .1 .1))
+    (element-value R.the-type noRecord none-value (t .records) (o .0 .0) (o .0 .1 .1))
     (element-value C.the-type emptySlot empty-value (t .slots) (o .1 .0 .0) (o .1 .0 .1 .1))
 
 pub unborn-is-table : IsTable unbornTable
 unfolding unbornTable
 unborn-is-table = values-are-table unbornTable refl refl
-    (λ n. at-replicate RecordValue unbornRecord 64 n unborn-value) (λ k. at-replicate SlotValue emptySlot 512 k empty-value)
+    (λ n. at-replicate RecordValue noRecord unbornRecord 64 n unborn-value none-value) (λ k. at-replicate SlotValue emptySlot emptySlot 512 k empty-value empty-value)
 
 -- and back, so a put of a value leaves a table
 record-of : (t : Table) → IsTable t → (n : ℕ) → RecordValue (recordAt t n)
-record-of t z n = record-value (recordAt t n) (z .statuses n) (z .kinds n) (z .words n) (z .stocks n)
+record-of t z n = record-value (recordAt t n) (z .statuses n) (z .kinds n) (z .makers n) (z .words n) (z .stocks n)
 
 pub slot-of : (t : Table) → IsTable t → (k : ℕ) → SlotValue (getD (t .slots) k emptySlot)
 slot-of t z k = slot-value (getD (t .slots) k emptySlot) (z .targets k) (z .rights k)
 
 pub table-putRecord : (t : Table) (n : ℕ) (r : Record) → IsTable t → RecordValue r → IsTable (putRecord t n r)
 table-putRecord t n r z v = values-are-table (putRecord t n r) (length-set (t .records) n r ∙ z .records) (z .slots)
-    (λ m. at-set RecordValue unbornRecord (t .records) n r m (λ e. v) (record-of t z m)) (slot-of t z)
+    (λ m. at-set RecordValue noRecord (t .records) n r m (λ e. v) (record-of t z m)) (slot-of t z)
 
 pub table-putSlot : (t : Table) (n j : ℕ) (c : Capability) → IsTable t → SlotValue c → IsTable (putSlot t n j c)
 table-putSlot t n j c z v = values-are-table (putSlot t n j c) (z .records) (length-set (t .slots) (n * 8 + j) c ∙ z .slots)

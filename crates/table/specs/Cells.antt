@@ -16,16 +16,24 @@ use Rattle.table.specs.declared.Table.{Table}
 abbrev pub emptySlot : Capability
 emptySlot = record { target = 0; rights = 0 }
 
+-- document 02, 2.7: a record's maker is "the number of the object that made it, or 64 for an object not made in a run"
+abbrev pub noMaker : ℕ
+noMaker = 64
+
+-- "unborn records have 64"
 abbrev pub unbornRecord : Record
-unbornRecord = record { status = 0; kind = 0; word = 0; stock = 0 }
+unbornRecord = record { status = 0; kind = 0; maker = noMaker; word = 0; stock = 0 }
 
 -- the wholly unborn table
 unfoldable pub unbornTable : Table
 unbornTable = record { records = replicate 64 unbornRecord; slots = replicate 512 emptySlot }
 
--- object n's record, and its slot j
+-- object n's record, and its slot j; what is read past the end is all zero, and so unborn
+abbrev pub noRecord : Record
+noRecord = record { status = 0; kind = 0; maker = 0; word = 0; stock = 0 }
+
 abbrev pub recordAt : Table → ℕ → Record
-recordAt t n = getD (t .records) n unbornRecord
+recordAt t n = getD (t .records) n noRecord
 
 abbrev pub slotAt : Table → ℕ → ℕ → Capability
 slotAt t n j = getD (t .slots) (n * 8 + j) emptySlot
@@ -36,6 +44,9 @@ slotOf list k = getD list k emptySlot
 
 abbrev pub statusAt : Table → ℕ → ℕ
 statusAt t n = recordAt t n .status
+
+abbrev pub makerAt : Table → ℕ → ℕ
+makerAt t n = recordAt t n .maker
 
 abbrev pub stockAt : Table → ℕ → ℕ
 stockAt t n = recordAt t n .stock
@@ -90,6 +101,7 @@ pub record IsTable (t : Table) : Type 0 where
   pub slots : length (t .slots) ≡ 512
   pub statuses : (n : ℕ) → recordAt t n .status < 2 ^ 8
   pub kinds : (n : ℕ) → recordAt t n .kind < 2 ^ 8
+  pub makers : (n : ℕ) → recordAt t n .maker < 2 ^ 8
   pub words : (n : ℕ) → recordAt t n .word < 2 ^ 32
   pub stocks : (n : ℕ) → recordAt t n .stock < 2 ^ 64
   pub targets : (k : ℕ) → getD (t .slots) k emptySlot .target < 2 ^ 8

@@ -1,5 +1,5 @@
--- Document 01: "A table is sound when all of this holds", a definition for each clause. Soundness computes, and every table
--- value has its answer.
+-- Document 01: "A table is sound when all of this holds", a definition for each clause, and the clause on makers of document 02, 2.7:
+-- "A sound table has in it 64 or a born number, and for an unborn record 64 alone." Soundness computes, and every table value has its answer.
 use mathlib.Core.Bool.{Bool, not, _&&_, _||_}
 use Prim.Native.Nat.{ℕ}
 use lib.Dec.{leb, eqb}
@@ -7,7 +7,7 @@ use Rattle.mask.specs.Sets.{has, allBelow}
 use Rattle.table.specs.declared.Capability.{Capability}
 use Rattle.table.specs.declared.Record.{Record}
 use Rattle.table.specs.declared.Table.{Table}
-use Rattle.table.specs.Cells.{recordAt, slotAt, stockAt, isAlive, isUnborn, bornAt, isEmpty}
+use Rattle.table.specs.Cells.{noMaker, recordAt, slotAt, makerAt, stockAt, isAlive, isUnborn, bornAt, isEmpty}
 
 -- "Statuses and kinds have the values above"
 abbrev pub valuesSound : Record → Bool
@@ -28,6 +28,10 @@ idleSlotSound r c = isAlive r || isEmpty c
 abbrev pub recordSound : Record → Bool
 recordSound r = valuesSound r && unbornSound r && idleSound r
 
+-- "64 or a born number, and for an unborn record 64 alone", by whether the maker is born
+abbrev pub makerSound : Record → Bool → Bool
+makerSound r born = eqb (r .maker) noMaker || not (isUnborn r) && born
+
 -- "A filled slot names a born target and has rights 1 to 15", by whether its target is born
 abbrev pub filledSound : Bool → Capability → Bool
 filledSound born c = isEmpty c || born && leb 1 (c .rights) && leb (c .rights) 15
@@ -42,7 +46,8 @@ stockSound t n k =
     not (has k (stockAt t n)) || isUnborn (recordAt t k) && allBelow 64 (λ m. eqb m n || not (has k (stockAt t m)))
 
 unfoldable pub soundAt : Table → ℕ → Bool
-soundAt t n = recordSound (recordAt t n) && allBelow 8 (slotSound t n) && allBelow 64 (stockSound t n)
+soundAt t n =
+    recordSound (recordAt t n) && makerSound (recordAt t n) (bornAt t (makerAt t n)) && allBelow 8 (slotSound t n) && allBelow 64 (stockSound t n)
 
 -- the table is sound
 unfoldable pub sound : Table → Bool

@@ -1,8 +1,9 @@
 // The capability table of document 01, "Objects, slots, rights": one value of 64 records, each with its eight slots.
 ghost use mathlib.Core.Path.{_≡_};
 ghost use mathlib.Core.Bool.{_&&_};
+ghost use Rattle.mask.specs.Sets.{has as hasBit};
 ghost use Rattle.table.specs.Cells.{isBorn, unbornTable};
-ghost use Rattle.table.specs.Soundness.{recordSound, idleSlotSound, filledSound, sound};
+ghost use Rattle.table.specs.Soundness.{recordSound, makerSound, idleSlotSound, filledSound, sound};
 ghost use Rattle.table.specs.Helpers.{oddSlot, glanceMore, clearOf};
 
 // What a slot holds: a target and rights over it (1 rd, 2 wr, 4 wk, 8 tx). Target 0 with rights 0 is an empty slot.
@@ -12,11 +13,13 @@ pub struct Capability {
     pub rights: u8,
 }
 
-// An object's record. `stock` is the set of unborn numbers that the object alone may make objects of.
+// An object's record. `maker` is the number of the object that made it, or 64 for one that was not made in a run; `stock` is the
+// set of unborn numbers that the object alone may make objects of.
 #[repr(C)]
 pub struct Record {
     pub status: u8,
     pub kind: u8,
+    pub maker: u8,
     pub word: u32,
     pub stock: u64,
 }
@@ -35,6 +38,7 @@ pub fn unborn_table() -> Table
     let nobody = Record {
         status: 0,
         kind: 0,
+        maker: 64,
         word: 0,
         stock: 0,
     };
@@ -69,6 +73,16 @@ pub fn record_sound(r: Record) -> bool
         return r.kind == 0;
     }
     (r.status == 2) & (r.kind <= 1)
+}
+
+// Is the maker as a sound table has it? `born` are the born numbers.
+fn maker_sound(r: Record, born: u64) -> bool
+    ensures { λ x. ⌜ x ≡ makerSound r (hasBit (r .maker) born) ⌝ }
+{
+    if r.maker == 64 {
+        return true;
+    }
+    !(r.status == 0) & mask::has(born, r.maker)
 }
 
 // Is a slot of the record as a sound table has it? `born` says whether its target is born.
@@ -137,7 +151,7 @@ pub fn is_sound(t: Table) -> bool
     let mut n: usize = 0;
     'scan: while n < 64 {
         let r = t.records[n];
-        if !(record_sound(r) & mask::disjoint(r.stock, taken)) {
+        if !(record_sound(r) & maker_sound(r, born) & mask::disjoint(r.stock, taken)) {
             ok = false;
             break 'scan;
         }

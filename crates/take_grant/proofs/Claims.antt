@@ -9,7 +9,7 @@ use native.Mathlib.Omega.{arith}
 use lib.ListN.{length, drop}
 use Rattle.table.specs.declared.Capability.{Capability}
 use Rattle.table.specs.declared.Table.{Table}
-use Rattle.table.specs.Cells.{IsTable, recordAt, slotAt, isAlive, isActive, isBorn}
+use Rattle.table.specs.Cells.{noMaker, makerAt, IsTable, recordAt, slotAt, isAlive, isActive, isBorn}
 use Rattle.table.specs.Soundness.{sound}
 use Rattle.take_grant.specs.declared.ImportReply.{ImportReply}
 use Rattle.take_grant.specs.declared.ImportReply.the-variants as R
@@ -19,13 +19,13 @@ use Rattle.take_grant.specs.Layout.{IsTakeGrant, table}
 use Rattle.take_grant.specs.Walk.{found, stopped, walkOf}
 use Rattle.take_grant.specs.Imports.{importNumber, slotFor, tableOf, imported, importOf}
 use Rattle.take_grant.specs.Stores.{Joined}
-use Rattle.take_grant.specs.Exactness.{LaidOut, table-of, WalkExact, AcceptsExactly, GivesBack, OneReading, UnbornOnRefusal, AlwaysSound, AlwaysTable, NoStock, AliveActive, Numbered, InPlace, RightByRight, EachOther, StoreJoins, StoreConnects, SharingJoins}
+use Rattle.take_grant.specs.Exactness.{LaidOut, table-of, WalkExact, AcceptsExactly, GivesBack, OneReading, UnbornOnRefusal, AlwaysSound, AlwaysTable, NoStock, NobodyMade, AliveActive, Numbered, InPlace, RightByRight, EachOther, StoreJoins, StoreConnects, SharingJoins}
 use Rattle.take_grant.proofs.Finds.{byFound}
 use Rattle.take_grant.proofs.Refusals.{walk-refuses}
 use Rattle.take_grant.proofs.Rights.{rows-of}
 use Rattle.take_grant.proofs.Tables.{table-none}
 use Rattle.take_grant.proofs.Grammar.{walked, walk-laid, laid-walk}
-use Rattle.take_grant.proofs.Legal.{Legal, none-legal, slot-rights, record-at, slot-at, each-record, legal-sound, legal-table}
+use Rattle.take_grant.proofs.Legal.{Legal, none-legal, slot-rights, record-at, slot-at, each-record, nobody-made, legal-sound, legal-table}
 use Rattle.take_grant.proofs.Joined.{joined-each, connected-joined, shares-joined}
 
 -- the import by what the walk found
@@ -95,12 +95,16 @@ always-table = import-is-table
 
 pub no-stock : NoStock
 unfolding NoStock
-no-stock bytes n = always (λ t. recordAt t n .stock ≡ 0) (λ es l. each-record es l (λ r. r .stock ≡ 0) refl refl n) bytes
+no-stock bytes n = always (λ t. recordAt t n .stock ≡ 0) (λ es l. each-record es l (λ r. r .stock ≡ 0) refl refl refl n) bytes
+
+pub nobody-made-any : NobodyMade
+unfolding NobodyMade
+nobody-made-any bytes n h = always (λ t. makerAt t n ≡ noMaker) (λ es l. nobody-made es l n h) bytes
 
 pub alive-active : AliveActive
 unfolding AliveActive
 alive-active bytes n = always (λ t. isBorn (recordAt t n) ≡ true → (isAlive (recordAt t n) ≡ true) × (isActive (recordAt t n) ≡ true))
-    (λ es l. each-record es l (λ r. isBorn r ≡ true → (isAlive r ≡ true) × (isActive r ≡ true)) (λ b. (refl, refl)) (λ b. (b, b)) n) bytes
+    (λ es l. each-record es l (λ r. isBorn r ≡ true → (isAlive r ≡ true) × (isActive r ≡ true)) (λ b. (refl, refl)) (λ b. (b, b)) (λ b. (b, b)) n) bytes
 
 -- what each entity becomes -------------------------------------------------------------------------
 legal : (es : List Entity) (bytes : List ℕ) → IsTakeGrant es bytes → Legal es
@@ -108,7 +112,7 @@ legal es bytes (table {bs = bs} h r) = record { few = h; laid = bs; row = r }
 
 pub numbered : Numbered
 unfolding Numbered
-numbered es bytes g n = rw (import-laid es bytes g) (record-at es (legal es bytes g) n)
+numbered es bytes g n h = rw (import-laid es bytes g) (record-at es (legal es bytes g) n h)
 
 pub in-place : InPlace
 unfolding InPlace

@@ -8,13 +8,13 @@ use Prim.Native.Nat.{ℕ, zero, suc, _+_, _*_, _/_, _%_, _^_, _≤_, _<_}
 use native.Mathlib.Omega.{arith}
 use lib.Dec.{ltb, eqb}
 use lib.ListN.{length, getD, List·getD-eq-default}
-use borrow.Author.Tests.{ltb-true, ltb-false, lt-ltb, le-ltb, eqb-true, eqb-false, ne-eqb}
+use borrow.Author.Tests.{ltb-true, ltb-false, lt-ltb, eqb-true, eqb-false, ne-eqb}
 use Rattle.mask.specs.Sets.{has, bits}
 use Rattle.mask.proofs.Tests.{byCases, clash}
 use Rattle.mask.proofs.Bits.{has-zero}
 use Rattle.table.specs.declared.Capability.{Capability}
 use Rattle.table.specs.declared.Record.{Record}
-use Rattle.table.specs.Cells.{IsTable, recordAt, slotAt, statusAt, stockAt, emptySlot, unbornRecord}
+use Rattle.table.specs.Cells.{IsTable, noMaker, recordAt, slotAt, statusAt, makerAt, stockAt, emptySlot, noRecord, unbornRecord}
 use Rattle.table.specs.Soundness.{sound}
 use Rattle.table.proofs.Lists.{length-tabulate, getD-tabulate}
 use Rattle.table.proofs.Cells.{Sized, record-high, slot-high}
@@ -97,13 +97,9 @@ module _ (es : List Entity) (l : Legal es) where
   unfolding tableOf
   size = record { records = length-tabulate 64 _; slots = length-tabulate 512 _ }
 
-  pub record-at : (n : ℕ) → recordAt (tableOf es) n ≡ recordFor es n
+  pub record-at : (n : ℕ) → n < 64 → recordAt (tableOf es) n ≡ recordFor es n
   unfolding tableOf
-  record-at n = byCases (ltb n 64)
-      (λ h. getD-tabulate 64 (recordFor es) n unbornRecord (ltb-true n 64 h))
-      (λ h. let g = ltb-false n 64 h in
-      let f = l .few in
-      record-high (tableOf es) n size g ∙ (rw (le-ltb n (length es) (omega arith), recordFor) refl))
+  record-at n h = getD-tabulate 64 (recordFor es) n noRecord h
 
   pub slot-at : (n k : ℕ) → k < 8 → slotAt (tableOf es) n k ≡ slotFor (capAt es n k)
   unfolding tableOf
@@ -118,11 +114,20 @@ module _ (es : List Entity) (l : Legal es) where
       ∙ sym (slot-empty (capAt es n k) (ap (λ (e : Entity). mapped (getD e k noCap .rights)) (List·getD-eq-default es [] {n = n} (omega arith)) ∙ mapped-none)))
 
   pub alive-at : (n : ℕ) → n < length es → recordAt (tableOf es) n ≡ entityRecord
-  alive-at n h = record-at n ∙ (rw (lt-ltb n (length es) h, recordFor) refl)
+  alive-at n h = let f = l .few in record-at n (omega arith) ∙ (rw (lt-ltb n (length es) h, recordFor) refl)
 
-  -- a fact of every record, of the two that there are
-  pub each-record : (P : Record → Type 0) → P entityRecord → P unbornRecord → (n : ℕ) → P (recordAt (tableOf es) n)
-  each-record P a u n = rw (record-at n) (byCases (ltb n (length es)) (λ h. rw (h, recordFor) a) (λ h. rw (h, recordFor) u))
+  -- a fact of the record of every object, of the two that there are
+  pub each-object : (P : Record → Type 0) → P entityRecord → P unbornRecord → (n : ℕ) → n < 64 → P (recordAt (tableOf es) n)
+  each-object P a u n b = rw (record-at n b) (byCases (ltb n (length es)) (λ h. rw (h, recordFor) a) (λ h. rw (h, recordFor) u))
+
+  -- and of every number, with what is read past the end
+  pub each-record : (P : Record → Type 0) → P entityRecord → P unbornRecord → P noRecord → (n : ℕ) → P (recordAt (tableOf es) n)
+  each-record P a u z n = byCases (ltb n 64)
+      (λ h. each-object P a u n (ltb-true n 64 h))
+      (λ h. rw (record-high (tableOf es) n size (ltb-false n 64 h)) z)
+
+  pub nobody-made : (n : ℕ) → n < 64 → makerAt (tableOf es) n ≡ noMaker
+  nobody-made = each-object (λ r. r .maker ≡ noMaker) refl refl
 
   -- soundness ------------------------------------------------------------------------------------------
   slot-sound : (n k : ℕ) → k < 8 → SlotFine (statusAt (tableOf es) n) (statusAt (tableOf es) (slotAt (tableOf es) n k .target)) (slotAt (tableOf es) n k)
@@ -142,14 +147,16 @@ module _ (es : List Entity) (l : Legal es) where
       record { blank = λ q. absurd (filled (sym r ∙ q)); held = λ q. a; named = λ q. omega arith; high = omega arith })
 
   no-stock : (n k : ℕ) → has k (stockAt (tableOf es) n) ≡ true → ⊥
-  no-stock n k h = clash h (each-record (λ r. has k (r .stock) ≡ false) (has-zero k) (has-zero k) n)
+  no-stock n k h = clash h (each-record (λ r. has k (r .stock) ≡ false) (has-zero k) (has-zero k) (has-zero k) n)
 
   pub legal-facts : Sound (tableOf es)
   legal-facts = record {
     size = size;
     records = each-record RecordFine
         (record { low = omega arith; sort = omega arith; still = λ q. absurd (q refl); plain = λ q. absurd (omega arith) })
+        (record { low = omega arith; sort = omega arith; still = λ q. (refl, refl); plain = λ q. refl })
         (record { low = omega arith; sort = omega arith; still = λ q. (refl, refl); plain = λ q. refl });
+    makers = λ n h. record { alone = λ q. nobody-made n h; born = λ q. absurd (q (nobody-made n h)) };
     slots = slot-sound;
     stocks = λ n k h e. absurd (no-stock n k e);
     apart = λ n m k h e f. absurd (no-stock n k e);
@@ -173,10 +180,11 @@ module _ (es : List Entity) (l : Legal es) where
   legal-table = record {
     records = size .records;
     slots = size .slots;
-    statuses = each-record (λ r. r .status < 2 ^ 8) (omega arith) (omega arith);
-    kinds = each-record (λ r. r .kind < 2 ^ 8) (omega arith) (omega arith);
-    words = each-record (λ r. r .word < 2 ^ 32) (omega arith) (omega arith);
-    stocks = each-record (λ r. r .stock < 2 ^ 64) (omega arith) (omega arith);
+    statuses = each-record (λ r. r .status < 2 ^ 8) (omega arith) (omega arith) (omega arith);
+    kinds = each-record (λ r. r .kind < 2 ^ 8) (omega arith) (omega arith) (omega arith);
+    makers = each-record (λ r. r .maker < 2 ^ 8) (omega arith) (omega arith) (omega arith);
+    words = each-record (λ r. r .word < 2 ^ 32) (omega arith) (omega arith) (omega arith);
+    stocks = each-record (λ r. r .stock < 2 ^ 64) (omega arith) (omega arith) (omega arith);
     targets = λ k. at-tabulate (λ (s : Capability). s .target < 2 ^ 8) emptySlot 512 _ k (cap-bits (k / 8) (k % 8) .0) (omega arith);
     rights = λ k. at-tabulate (λ (s : Capability). s .rights < 2 ^ 8) emptySlot 512 _ k (cap-bits (k / 8) (k % 8) .1) (omega arith);
   }

@@ -12,7 +12,7 @@ use lib.Seq.{getD-set-same, getD-set-other, getD-at}
 use borrow.Author.Tests.{lt-ltb, ltb-true}
 use Rattle.mask.proofs.Tests.{byEq, bool-ext}
 use Rattle.table.specs.declared.Table.{Table}
-use Rattle.table.specs.Cells.{emptySlot, unbornRecord, unbornTable, putRecord, putSlot}
+use Rattle.table.specs.Cells.{emptySlot, noRecord, unbornTable, putRecord, putSlot}
 use Rattle.table.specs.Lists.{tabulate}
 use Rattle.table.proofs.Lists.{length-tabulate, getD-tabulate, as-tabulate}
 use Rattle.table.proofs.Cells.{tables-same}
@@ -65,7 +65,7 @@ module _ (es : List Entity) (n : ℕ) (e : length es ≡ n) where
       let l = length-append es ([] ∷ []) in
       let b : ltb n (length (es ++ ([] ∷ []))) ≡ true = lt-ltb n _ (omega arith) in
       rw q (tables-same
-      (set-tabulate 64 (recordFor es) (recordFor (es ++ ([] ∷ []))) n entityRecord unbornRecord h (rw (b, recordFor) refl) begun-record)
+      (set-tabulate 64 (recordFor es) (recordFor (es ++ ([] ∷ []))) n entityRecord noRecord h (rw (b, recordFor) refl) begun-record)
       (same-tabulate 512 _ _ emptySlot (λ i. ap slotFor (begun-cap (i / 8) (i % 8)))))
 
 -- one capability more
@@ -85,7 +85,7 @@ module _ (es : List Entity) (cs : List Cap) (c : Cap) (n k : ℕ) (e : length es
   pub held-more : (t : Table) → n < 64 → k < 8 → t ≡ tableOf (es ++ (cs ∷ [])) → putSlot t n k (slotFor c) ≡ tableOf (es ++ ((cs ++ (c ∷ [])) ∷ []))
   unfolding tableOf
   held-more t h g q = rw q (tables-same
-      (same-tabulate 64 _ _ unbornRecord more-length)
+      (same-tabulate 64 _ _ noRecord more-length)
       (set-tabulate 512 _ _ (n * 8 + k) (slotFor c) emptySlot (omega arith)
       (sym (ap slotFor (ap₂ (λ (m j : ℕ). capAt (es ++ ((cs ++ (c ∷ [])) ∷ [])) m j) (omega arith) (omega arith) ∙ more-same)))
       (λ i o. ap slotFor (more-other (i / 8) (i % 8) (λ a b. o (omega arith))))))

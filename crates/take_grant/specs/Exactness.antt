@@ -6,7 +6,7 @@ use mathlib.Core.List.{List, []}
 use Prim.Native.Nat.{ℕ, suc, _<_}
 use lib.ListN.{length}
 use Rattle.table.specs.declared.Table.{Table}
-use Rattle.table.specs.Cells.{IsTable, unbornTable, recordAt, slotAt, stockAt, bornAt, isAlive, isActive, hasRd, hasWr, hasWk, hasTx}
+use Rattle.table.specs.Cells.{IsTable, noMaker, unbornTable, recordAt, slotAt, makerAt, stockAt, bornAt, isAlive, isActive, hasRd, hasWr, hasWk, hasTx}
 use Rattle.table.specs.Soundness.{sound}
 use Rattle.relation.specs.Relation.{Influences, tableHolding}
 use Rattle.octets.specs.BigEndian.{Bytes}
@@ -55,6 +55,10 @@ AlwaysTable = (bytes : List ℕ) → IsTable (importOf bytes .table)
 unfoldable pub NoStock : Type 0
 NoStock = (bytes : List ℕ) (n : ℕ) → stockAt (importOf bytes .table) n ≡ 0
 
+-- none of them was made in a run: "or 64 for an object not made in a run" (2.7)
+unfoldable pub NobodyMade : Type 0
+NobodyMade = (bytes : List ℕ) (n : ℕ) → n < 64 → makerAt (importOf bytes .table) n ≡ noMaker
+
 -- "alive, active": no object is dead or passive
 unfoldable pub AliveActive : Type 0
 AliveActive = (bytes : List ℕ) (n : ℕ) → bornAt (importOf bytes .table) n ≡ true
@@ -63,7 +67,7 @@ AliveActive = (bytes : List ℕ) (n : ℕ) → bornAt (importOf bytes .table) n 
 -- what each entity becomes ---------------------------------------------------------------
 -- "Entities are numbered from 0 as they come and become alive, active, word 0, no stock"; all other numbers stay unborn
 unfoldable pub Numbered : Type 0
-Numbered = (es : List Entity) (bytes : List ℕ) → IsTakeGrant es bytes → (n : ℕ) → recordAt (importOf bytes .table) n ≡ recordFor es n
+Numbered = (es : List Entity) (bytes : List ℕ) → IsTakeGrant es bytes → (n : ℕ) → n < 64 → recordAt (importOf bytes .table) n ≡ recordFor es n
 
 -- "in its place": slot k of object n is what capability k of entity n becomes, and its rights are the mapping
 unfoldable pub InPlace : Type 0

@@ -8,7 +8,7 @@ use Rattle.table.specs.declared.Capability.{Capability}
 use Rattle.table.specs.declared.Record.{Record}
 use Rattle.table.specs.declared.Table.{Table}
 use Rattle.table.specs.Lists.{tabulate}
-use Rattle.table.specs.Cells.{emptySlot, unbornRecord, unbornTable}
+use Rattle.table.specs.Cells.{noMaker, emptySlot, unbornRecord, unbornTable}
 use Rattle.take_grant.specs.declared.ImportReply.{ImportReply}
 use Rattle.take_grant.specs.declared.ImportReply.the-variants as R
 use Rattle.take_grant.specs.declared.Imported.{Imported}
@@ -23,9 +23,9 @@ importNumber R.LengthWrong = 20
 importNumber R.VersionWrong = 21
 importNumber R.ValueWrong = 22
 
--- "Entities ... become alive, active, word 0, no stock"
+-- "Entities ... become alive, active, word 0, no stock"; nobody made them in a run (2.7)
 abbrev pub entityRecord : Record
-entityRecord = record { status = 1; kind = 1; word = 0; stock = 0 }
+entityRecord = record { status = 1; kind = 1; maker = noMaker; word = 0; stock = 0 }
 
 -- "numbered from 0 as they come"; the numbers after them stay unborn
 abbrev pub recordFor : List Entity → ℕ → Record

@@ -94,13 +94,14 @@ fn held_at(bytes: &[u8], at: usize, count: u8) -> Held
     Held::Slot(slot)
 }
 
-// What an entity becomes: alive, active, word 0, no stock.
+// What an entity becomes: alive, active, word 0, no stock, and made by nobody.
 fn entity_record() -> Record
     ensures { λ r. ⌜ r ≡ entityRecord ⌝ }
 {
     Record {
         status: 1,
         kind: 1,
+        maker: 64,
         word: 0,
         stock: 0,
     }

@@ -92,12 +92,12 @@ fn main() {
     run(
         Part::Images,
         b"images",
-        b"images: case, read: number, table; written back: number, buffer\n",
+        b"images: case, read: number, table; written back: number, buffer; in the older form: number, buffer\n",
     );
     run(
         Part::Writes,
         b"writes",
-        b"tables written, sound or not: case, number, buffer\n",
+        b"tables written, sound or not: case, number, buffer; in the older form: number, buffer\n",
     );
     run(Part::Steps, b"steps", b"steps: case, number, table after\n");
     run(

@@ -1,5 +1,5 @@
 // Requests: each on a table of its own, or in a chain where each gets the table that the one before it left.
-// A case is the 1,920 bytes of a table and the 29 of a request; a chain is a table and then requests alone.
+// A case is the 1,984 bytes of a table and the 29 of a request; a chain is a table and then requests alone.
 use captable::Outcome;
 use cases::digest;
 use cases::input;
@@ -47,20 +47,20 @@ fn answer_lent(number: u64, outcome: Outcome) -> Table {
 }
 
 pub fn case(fd: i32, number: u64) -> bool {
-    let mut bytes = [0u8; 1949];
+    let mut bytes = [0u8; 2013];
     let got = io::read_full(fd, &mut bytes);
-    if got < 1949 {
+    if got < 2013 {
         return false;
     }
     let t = input::raw_table(&bytes);
-    let request = input::request(&bytes, 1920);
-    let list = input::pair_list(&bytes, 1920);
+    let request = input::request(&bytes, 1984);
+    let list = input::pair_list(&bytes, 1984);
     answer(number, kernel::step(t, request, list));
     true
 }
 
 pub fn chain_start(fd: i32) -> Table {
-    let mut bytes = [0u8; 1920];
+    let mut bytes = [0u8; 1984];
     io::read_full(fd, &mut bytes);
     input::raw_table(&bytes)
 }

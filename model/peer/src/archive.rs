@@ -11,11 +11,17 @@ extern "C" {
     fn peer_scan(table: *const raw::Table) -> u8;
 }
 
-/// The version that the comparison is for, 0.7.0: the first number times 65,536, the second times 256.
-pub const VERSION: u32 = 1792;
+/// The version that the comparison is for, 0.8.0: the first number times 65,536, the second times 256.
+pub const VERSION: u32 = 2048;
 
 /// The archive's calls, and the scan in C.
 pub trait Calls {
+    /// The wholly unborn table.
+    fn unborn(&self) -> raw::Table {
+        // SAFETY: the call takes nothing.
+        unsafe { raw::captable_unborn() }
+    }
+
     /// 0 for a sound table, 1 for any other.
     fn sound(&self, table: &mut raw::Table) -> u8 {
         // SAFETY: the call takes a value alone.
@@ -70,10 +76,16 @@ pub trait Calls {
         unsafe { raw::captable_import(bytes.as_mut_ptr(), bytes.len()) }
     }
 
-    /// Writes an image into a buffer.
+    /// Writes an image of version 2 into a buffer.
     fn write(&self, table: &mut raw::Table, buffer: &mut [u8]) -> u8 {
         // SAFETY: pointer and length are of one slice, which is borrowed for the call alone.
         unsafe { raw::captable_write(*table, buffer.as_mut_ptr(), buffer.len()) }
+    }
+
+    /// Writes an image of version 1 into a buffer.
+    fn write_older(&self, table: &mut raw::Table, buffer: &mut [u8]) -> u8 {
+        // SAFETY: pointer and length are of one slice, which is borrowed for the call alone.
+        unsafe { raw::captable_write_older(*table, buffer.as_mut_ptr(), buffer.len()) }
     }
 
     /// Puts what `confine` prints into the buffer, and says how many bytes that is.

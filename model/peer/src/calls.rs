@@ -1,10 +1,11 @@
 //! The archive's calls by name, what each of them is given, and the number that it answers.
 
+use captable::raw;
 use yavrinks_model::table::Table;
 use yavrinks_tools::generate::printed_number;
 
 use crate::archive::{Archive, Calls, VERSION};
-use crate::convert::to_raw;
+use crate::convert::{to_model, to_raw};
 
 /// An exported call.
 #[derive(Clone, Copy, Debug, PartialEq, Eq)]
@@ -18,12 +19,14 @@ pub enum Call {
     Read,
     Import,
     Write,
+    WriteOlder,
     Confine,
+    Unborn,
     Version,
 }
 
 impl Call {
-    pub const ALL: [Call; 11] = [
+    pub const ALL: [Call; 13] = [
         Call::Step,
         Call::Stepped,
         Call::Sound,
@@ -33,7 +36,9 @@ impl Call {
         Call::Read,
         Call::Import,
         Call::Write,
+        Call::WriteOlder,
         Call::Confine,
+        Call::Unborn,
         Call::Version,
     ];
 
@@ -49,7 +54,9 @@ impl Call {
             Call::Read => "captable_read",
             Call::Import => "captable_import",
             Call::Write => "captable_write",
+            Call::WriteOlder => "captable_write_older",
             Call::Confine => "captable_confine",
+            Call::Unborn => "captable_unborn",
             Call::Version => "captable_version",
         }
     }
@@ -58,7 +65,7 @@ impl Call {
     pub fn takes_table(self) -> bool {
         !matches!(
             self,
-            Call::Step | Call::Read | Call::Import | Call::Confine | Call::Version
+            Call::Step | Call::Read | Call::Import | Call::Confine | Call::Unborn | Call::Version
         )
     }
 }
@@ -93,13 +100,20 @@ pub fn answer(call: Call, sample: &Sample) -> u8 {
         Call::Read => Archive.read(&mut bytes).number,
         Call::Import => Archive.import(&mut bytes).number,
         Call::Write => Archive.write(&mut table, &mut bytes),
+        Call::WriteOlder => Archive.write_older(&mut table, &mut bytes),
         Call::Confine => {
             let mut out = [0; 256];
             let count = Archive.confine(&mut bytes, &mut out);
             printed_number(&String::from_utf8_lossy(&out[..count.min(256)]))
         }
+        Call::Unborn => unborn_number(&Archive.unborn()),
         Call::Version => version_number(Archive.version()),
     }
+}
+
+/// The unborn table's stand-in for a number: 0 for the one that is expected, 1 for any other.
+pub fn unborn_number(table: &raw::Table) -> u8 {
+    u8::from(to_model(table) != Table::unborn())
 }
 
 /// The version's stand-in for a number: 0 for the one that is expected, 1 for any other.

@@ -1,21 +1,24 @@
 //! The inputs that stack and instructions are measured on: for each call some that are done and some
 //! that are refused, on table K, on the filled table, and on 64 objects in a row, where a test takes the most rounds;
-//! tests with wk alone in many slots too, and requests with empty copies.
+//! tests with wk alone in many slots too, requests with empty copies, and images of either version of tables with makers
+//! and without.
 
 use yavrinks_model::access::potential_access;
 use yavrinks_model::chain::chain;
 use yavrinks_model::confine::confine;
 use yavrinks_model::confinement::{confinement_test, Entry};
-use yavrinks_model::image::{self, IMAGE_LENGTH};
+use yavrinks_model::image::{self, Version, VERSION_AT};
 use yavrinks_model::set;
 use yavrinks_model::step::{step, Request};
 use yavrinks_model::table::Table;
 use yavrinks_model::take_grant;
 use yavrinks_model::wire::encode;
-use yavrinks_tools::generate::{encode_input, printed_number, ConfinementCase, ShownCase};
+use yavrinks_tools::generate::{encode_input, newer_input, printed_number};
+use yavrinks_tools::generate::{ConfinementCase, ShownCase};
 
 use crate::calls::{Call, Sample};
-use crate::samples::{farthest, imports, keeping, list_bytes, material_test, mended, own_test};
+use crate::samples::{farthest, imports, keeping, list_bytes, made_table};
+use crate::samples::{material_test, mended, own_test};
 use crate::samples::{places, requests, rows, unsound_at_the_end, with_slots_filled};
 use crate::samples::{Import, Keeping, Place};
 
@@ -31,14 +34,18 @@ pub fn samples(call: Call) -> Vec<Sample> {
         Call::Access => tables().into_iter().map(access).collect(),
         Call::Test => tests().into_iter().map(test).collect(),
         Call::Chain => tests().into_iter().flat_map(chains).map(shown).collect(),
-        Call::Read => places.iter().flat_map(reads).collect(),
+        Call::Read => imaged().iter().flat_map(reads).collect(),
         Call::Import => {
             let whole = imports().into_iter().flat_map(brought_in);
             whole.chain(tiny_imports()).collect()
         }
-        Call::Write => places.iter().flat_map(writes).collect(),
-        Call::Confine => tests().into_iter().map(confined).chain([short()]).collect(),
-        Call::Version => vec![nothing()],
+        Call::Write => writes(Version::Two),
+        Call::WriteOlder => writes(Version::One),
+        Call::Confine => {
+            let other = [short(), newer()];
+            tests().into_iter().map(confined).chain(other).collect()
+        }
+        Call::Unborn | Call::Version => vec![nothing()],
     }
 }
 
@@ -83,6 +90,10 @@ fn tables() -> Vec<(String, Table)> {
         tables.push((format!("unsound, {}", place.name), unsound));
         tables.push((place.name.to_string(), place.table));
     }
+    let mut last_maker = made_table();
+    last_maker.records[63].maker = 65;
+    tables.push((String::from("every object made"), made_table()));
+    tables.push((String::from("unsound by the last maker"), last_maker));
     tables
 }
 
@@ -198,6 +209,16 @@ fn short() -> Sample {
     input(String::from("one byte"), vec![7])
 }
 
+/// One with an image of version 2, which has its right length.
+fn newer() -> Sample {
+    let case = ConfinementCase {
+        table: made_table(),
+        members: 0,
+        list: Vec::new(),
+    };
+    input(String::from("version 2"), newer_input(case, 15))
+}
+
 fn input(name: String, bytes: Vec<u8>) -> Sample {
     Sample {
         name,
@@ -221,26 +242,42 @@ fn nothing() -> Sample {
     }
 }
 
-/// Images of a place: right, short, of another version, and not sound.
-fn reads(place: &Place) -> Vec<Sample> {
-    let right = image::encode(&place.table);
-    let mut version = right.clone();
-    version[2] = 0;
-    let images = [
-        ("right", right.clone()),
-        ("short", right[1..].to_vec()),
-        ("version 0", version),
-        ("unsound", image::encode(&unsound_at_the_end(&place.table))),
-    ];
-    let of = |(name, bytes): (&str, Vec<u8>)| Sample {
-        name: format!("{name}, {}", place.name),
+/// The tables whose images are read and written, by name.
+fn imaged() -> Vec<(&'static str, Table)> {
+    let places = places().map(|place| (place.name, place.table));
+    let made = ("every object made", made_table());
+    places.into_iter().chain([made]).collect()
+}
+
+/// Images of a table in both versions: right, short, not sound, with the other version's byte, and with one of no
+/// version.
+fn reads((name, table): &(&str, Table)) -> Vec<Sample> {
+    let of = |what: String, bytes: Vec<u8>| Sample {
+        name: format!("{what}, {name}"),
         number: image::read(&bytes).0,
         table: Table::unborn(),
         members: 0,
         bytes,
         object: 0,
     };
-    images.into_iter().map(of).collect()
+    let with_version = |image: &[u8], number: u8| {
+        let mut other = image.to_vec();
+        other[VERSION_AT] = number;
+        other
+    };
+    let mut all = Vec::new();
+    for version in Version::ALL {
+        let (k, right) = (version.number(), image::encode(version, table));
+        let unsound = image::encode(version, &unsound_at_the_end(table));
+        all.push(of(format!("version {k}"), right.clone()));
+        all.push(of(format!("short, version {k}"), right[..1900].to_vec()));
+        all.push(of(format!("unsound, version {k}"), unsound));
+        for other in [3 - k, 0] {
+            let image = with_version(&right, other);
+            all.push(of(format!("version {other} for {k}"), image));
+        }
+    }
+    all
 }
 
 /// An import as it is, and with an offence of each kind: in the head, and in the last capability and at the end,
@@ -290,21 +327,26 @@ fn import(name: String, bytes: Vec<u8>) -> Sample {
     }
 }
 
-/// Writes of a place: into a buffer, into a short one, and of a table that is not sound.
-fn writes(place: &Place) -> Vec<Sample> {
-    let unsound = unsound_at_the_end(&place.table);
-    let cases = [
-        ("written", &place.table, IMAGE_LENGTH),
-        ("short buffer", &place.table, IMAGE_LENGTH - 1),
-        ("unsound", &unsound, IMAGE_LENGTH),
-    ];
-    let of = |(name, table, length): (&str, &Table, usize)| Sample {
-        name: format!("{name}, {}", place.name),
-        number: image::write(table, &mut vec![0; length]),
+/// Writes in a version: into a buffer, for which the older form is refused where there are makers, into a short one,
+/// and of a table that is not sound.
+fn writes(version: Version) -> Vec<Sample> {
+    let length = version.image_length();
+    let of = |name: String, table: &Table, length: usize| Sample {
+        name,
+        number: image::write(version, table, &mut vec![0; length]),
         table: table.clone(),
         members: 0,
         bytes: vec![0; length],
         object: 0,
     };
-    cases.into_iter().map(of).collect()
+    let mut all = Vec::new();
+    for (name, table) in imaged() {
+        let unsound = unsound_at_the_end(&table);
+        let lost = version == Version::One && table.has_makers();
+        let what = if lost { "makers" } else { "written" };
+        all.push(of(format!("{what}, {name}"), &table, length));
+        all.push(of(format!("short buffer, {name}"), &table, length - 1));
+        all.push(of(format!("unsound, {name}"), &unsound, length));
+    }
+    all
 }

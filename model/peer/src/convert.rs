@@ -13,6 +13,7 @@ pub fn to_raw(table: &Table) -> raw::Table {
         made.records[n] = raw::Record {
             status: record.status,
             kind: record.kind,
+            maker: record.maker,
             word: record.word,
             stock: Set::from_bits(record.stock),
         };
@@ -41,6 +42,7 @@ pub fn to_model(table: &raw::Table) -> Table {
             word: record.word,
             stock: record.stock.bits(),
             slots,
+            maker: record.maker,
         };
     }
     made

@@ -79,6 +79,7 @@ pub fn filled_table() -> Table {
         stocked_percent: 0,
         filled_percent: 100,
         weak_percent: 25,
+        made_percent: 0,
     };
     let mut table = sound_table(&mut Rng::new(7), &shape);
     let (member, unborn) = (last_alive(&table), numbers_where(&table, |r| !r.is_born()));
@@ -92,6 +93,16 @@ pub fn filled_table() -> Table {
     }
     if let Some(maker) = table.records.iter_mut().find(|record| record.can_act()) {
         maker.stock = set::of(&unborn);
+    }
+    table
+}
+
+/// The filled table in which every object was made in a run, each by the next one.
+pub fn made_table() -> Table {
+    let mut table = filled_table();
+    let born = numbers_where(&table, Record::is_born);
+    for (&n, &maker) in born.iter().zip(born.iter().cycle().skip(1)) {
+        table.record_mut(n).maker = maker;
     }
     table
 }

@@ -8,11 +8,12 @@ usage: yavrinks-peer COMMAND
 
   differential [SEED [REQUESTS [INPUTS]]]
       Puts the same questions to the archive and to the model and compares every answer: REQUESTS
-      requests in both forms of the step, with the other calls at times, then INPUTS images, as many
-      imports of take-and-grant tables and as many inputs of the program confine. Prints how often
-      each number was answered, how often a request that was done had an empty copy and what that
-      met, how often a test was answered where a member holds wk alone that the list lacks, and how
-      many rounds accepted tests took. At the first difference it prints the case and both answers.
+      requests in both forms of the step, with the other calls at times, then INPUTS images of both
+      versions, as many imports of take-and-grant tables and as many inputs of the program confine.
+      Prints how often each number was answered, how often a request that was done had an empty copy
+      and what that met, how often a test was answered where a member holds wk alone that the list
+      lacks, how many rounds accepted tests took, and how often makers were recorded, found and
+      refused. At the first difference it prints the case and both answers.
       The same SEED asks the same on every machine. Without numbers: seed 1, 10000000 requests,
       1000000 inputs.
 
@@ -20,9 +21,10 @@ usage: yavrinks-peer COMMAND
       Times each call of the archive and of the model in turn, on table K and on a table with every
       slot filled, a send and a fetch whose copies come out empty, a fetch that is weakened to wk, the
       test where members hold 64 wk alone and the list is empty, test and chain on 64 objects in a
-      row, upwards and downwards, the longest import and a small one, the chain against the test that
-      it begins with, and the step on a lent table against one soundness scan in C. Run it on a
-      machine that does nothing else.
+      row, upwards and downwards, images of both versions, soundness and images where every object
+      has a maker, the longest import and a small one, the chain against the test that it begins with,
+      and the step on a lent table against one soundness scan in C. Run it on a machine that does
+      nothing else.
 
   stack
       Measures how many bytes of stack each call of the archive takes (x86-64 alone). The header

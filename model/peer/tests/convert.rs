@@ -1,6 +1,6 @@
 //! A table to the archive's form and back.
 
-use yavrinks_model::image;
+use yavrinks_model::image::{self, Version};
 use yavrinks_model::table::Table;
 use yavrinks_peer::archive::{Archive, Calls};
 use yavrinks_peer::convert::{to_model, to_raw};
@@ -27,11 +27,20 @@ fn every_field_of_table_k_has_its_place() {
     assert_eq!(raw.records[5].stock.bits(), 1 << 10 | 1 << 11);
     let slot = raw.slots[2 * 8 + 1];
     assert_eq!((slot.target, slot.rights), (6, 4));
+    assert_eq!(raw.records.map(|record| record.maker), [64; 64]);
+    let mut made = Table::k();
+    made.record_mut(6).maker = 5;
+    assert_eq!(to_raw(&made).records[6].maker, 5);
+    assert_eq!(to_model(&to_raw(&made)), made);
 }
 
 #[test]
-fn the_archive_writes_the_image_that_the_model_writes() {
-    let mut buffer = [0; image::IMAGE_LENGTH];
-    assert_eq!(Archive.write(&mut to_raw(&Table::k()), &mut buffer), 0);
-    assert_eq!(buffer.to_vec(), image::encode(&Table::k()));
+fn the_archive_writes_the_images_that_the_model_writes() {
+    let k = Table::k();
+    let mut buffer = [0; Version::Two.image_length()];
+    assert_eq!(Archive.write(&mut to_raw(&k), &mut buffer), 0);
+    assert_eq!(buffer.to_vec(), image::encode(Version::Two, &k));
+    let mut older = [0; Version::One.image_length()];
+    assert_eq!(Archive.write_older(&mut to_raw(&k), &mut older), 0);
+    assert_eq!(older.to_vec(), image::encode(Version::One, &k));
 }

@@ -159,6 +159,7 @@ fn every_list_of_an_allocate() {
             let own = before.record(ACTOR).slots;
             let made = expected.record_mut(NEW);
             made.status = ALIVE;
+            made.maker = ACTOR;
             made.slots = with_pairs(&made.slots, &own, &list);
             let maker = expected.record_mut(ACTOR);
             maker.stock = 0;

@@ -11,9 +11,11 @@ use yavrinks_model::take_grant;
 use yavrinks_model::wire::decode_list;
 use yavrinks_peer::calls::{answer, Call};
 use yavrinks_peer::cases::samples;
-use yavrinks_peer::samples::{farthest, held_list, imports, keeping, material_test, own_test};
+use yavrinks_peer::samples::{farthest, held_list, imports, keeping, made_table};
+use yavrinks_peer::samples::{material_test, own_test};
 use yavrinks_peer::samples::{places, requests, rows, with_slots_filled};
 use yavrinks_tools::empty_kinds::{empty_kinds, EmptyKind};
+use yavrinks_tools::generate::without_makers;
 use yavrinks_tools::generate::{CONFINEMENT_NUMBERS, IMPORT_NUMBERS, SHOWN_NUMBERS};
 
 #[test]
@@ -134,12 +136,30 @@ fn the_imports_that_are_measured_are_brought_in() {
     }
 }
 
+/// Every object of that table has a maker that is born, and none is its own; the filled table has no makers.
 #[test]
-fn tests_chains_and_imports_are_measured_with_every_number() {
+fn the_table_with_makers_is_the_filled_one_with_every_object_made() {
+    let made = made_table();
+    assert!(made.is_sound());
+    for n in set::numbers(made.born()) {
+        let maker = made.record(n).maker;
+        assert!(maker != n && made.is_born(maker), "{maker} made {n}");
+    }
+    assert_eq!(made.born().count_ones(), 63);
+    let [_, filled] = places();
+    assert!(!filled.table.has_makers());
+    assert_eq!(without_makers(&made), filled.table);
+}
+
+#[test]
+fn these_calls_are_measured_with_every_number() {
     for (call, numbers) in [
         (Call::Test, &CONFINEMENT_NUMBERS[..]),
         (Call::Chain, &SHOWN_NUMBERS),
+        (Call::Read, &[0, 1, 14, 15]),
         (Call::Import, &IMPORT_NUMBERS),
+        (Call::Write, &[0, 1, 16]),
+        (Call::WriteOlder, &[0, 1, 16, 23]),
     ] {
         let met: BTreeSet<u8> = samples(call).iter().map(|sample| sample.number).collect();
         assert!(met.iter().eq(numbers), "{}: {met:?}", call.name());
@@ -156,7 +176,10 @@ fn the_archive_answers_every_sample_as_the_model_does() {
             numbers.push(number);
         }
         assert!(numbers.contains(&0), "{} is never done", call.name());
-        let never = matches!(call, Call::Import | Call::Confine | Call::Version);
+        let never = matches!(
+            call,
+            Call::Import | Call::Confine | Call::Unborn | Call::Version
+        );
         assert!(numbers.contains(&1) || never, "{}", call.name());
     }
 }

@@ -5,9 +5,10 @@ mod json;
 
 pub use json::Json;
 use yavrinks_model::confinement::Entry;
+use yavrinks_model::image::Version;
 use yavrinks_model::set;
 use yavrinks_model::step::{Code, Fields, Request};
-use yavrinks_model::table::{Capability, Record, Table};
+use yavrinks_model::table::{Capability, Record, Table, NO_MAKER};
 
 /// The values of a text that holds one JSON value a line.
 pub fn values(text: &str) -> Vec<Json> {
@@ -66,7 +67,7 @@ pub fn index(key: &str) -> usize {
 }
 
 fn record(value: &Json) -> Record {
-    let known = ["status", "kind", "word", "stock", "slots"];
+    let known = ["status", "kind", "word", "stock", "slots", "maker"];
     for key in value.as_object().expect("record").keys() {
         assert!(known.contains(&key.as_str()), "field {key} in a record");
     }
@@ -75,6 +76,7 @@ fn record(value: &Json) -> Record {
     record.kind = byte_or_zero(value, "kind");
     record.word = u32::try_from(value.get("word").map_or(0, number)).expect("word");
     record.stock = value.get("stock").map_or(0, number_set);
+    record.maker = value.get("maker").map_or(NO_MAKER, byte);
     if let Some(slots) = value.get("slots") {
         for (key, slot) in slots.as_object().expect("slots") {
             let (target, rights) = pair(slot);
@@ -158,4 +160,51 @@ impl StepLine {
             answer: (byte(field(value, "reply")), after),
         }
     }
+}
+
+/// A line of a file of images: what one call is given, and its number with the table that it brings back or
+/// with the buffer afterwards.
+pub enum ImageLine {
+    Read {
+        bytes: Vec<u8>,
+        answer: (u8, Table),
+    },
+    Write {
+        version: Version,
+        table: Table,
+        before: Vec<u8>,
+        answer: (u8, Vec<u8>),
+    },
+}
+
+impl ImageLine {
+    pub fn of(value: &Json) -> ImageLine {
+        let number = byte(field(value, "number"));
+        let of_line = table(field(value, "table"));
+        match field(value, "call").as_text() {
+            Some("read") => ImageLine::Read {
+                bytes: hexadecimal(field(value, "bytes")),
+                answer: (number, of_line),
+            },
+            Some("write") => {
+                let before = buffer_of(field(value, "size"));
+                let after = match field(value, "bytes") {
+                    Json::Null => before.clone(),
+                    written => hexadecimal(written),
+                };
+                ImageLine::Write {
+                    version: Version::of(byte(field(value, "version"))).expect("version"),
+                    table: of_line,
+                    before,
+                    answer: (number, after),
+                }
+            }
+            call => panic!("call {call:?}"),
+        }
+    }
+}
+
+/// A buffer as it is before a call: each byte A5.
+fn buffer_of(size: &Json) -> Vec<u8> {
+    vec![0xA5; usize::try_from(number(size)).expect("size")]
 }

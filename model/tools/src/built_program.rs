@@ -7,16 +7,18 @@ use std::io::{self, Write};
 use std::path::Path;
 use std::process::{Command, ExitCode, Output, Stdio};
 
-use crate::generate::{confine_input, CONFINE_NUMBERS};
+use crate::generate::{
+    confine_input, confinement_case, newer_input, CONFINE_NUMBERS, INPUT_COUNT_AT,
+};
 use crate::progress::Progress;
 use crate::rng::Rng;
 use yavrinks_model::confine::confine;
+use yavrinks_model::image::VERSION_AT;
 
 /// Random inputs for each number that the program can give.
 const EACH: usize = 40;
-/// The count byte of an input, and the length of the longest input that can be right.
-const COUNT_AT: usize = 1931;
-const LONGEST: usize = 1932 + 2 * 255;
+/// The length of the longest input that can be right.
+const LONGEST: usize = INPUT_COUNT_AT + 1 + 2 * 255;
 
 /// An input and what must be printed for it.
 struct Case {
@@ -78,6 +80,7 @@ fn compare(program: &Program<'_>) -> io::Result<usize> {
         ("test vectors", vector_cases()?),
         ("random inputs", random_cases(&mut Rng::new(0xC0F1E))),
         ("odd lengths", odd_cases()),
+        ("other versions", version_cases()),
     ];
     let mut output = io::stdout();
     let (mut done, mut differences) = (0, 0);
@@ -177,19 +180,48 @@ fn odd_cases() -> Vec<Case> {
         2,
         1922,
         1923,
-        COUNT_AT,
-        COUNT_AT + 1,
+        INPUT_COUNT_AT,
+        INPUT_COUNT_AT + 1,
+        1987,
+        1996,
         LONGEST,
         LONGEST + 1,
         1 << 20,
     ] {
         let mut input = right.clone();
         input.resize(length, 0);
-        if length > COUNT_AT {
-            input[COUNT_AT] = 255;
+        if length > INPUT_COUNT_AT {
+            input[INPUT_COUNT_AT] = 255;
         }
         cases.push(model_case(format!("{length} bytes"), input));
         cases.push(model_case(format!("{length} zeros"), vec![0; length]));
+    }
+    cases
+}
+
+/// Version bytes other than 1, with every length field, and with a byte too many; then whole images of version 2 in
+/// the place of one of version 1.
+fn version_cases() -> Vec<Case> {
+    let mut rng = Rng::new(0x7E2);
+    let right = confine_input(&mut rng, 0);
+    let mut cases = Vec::new();
+    for version in [0, 1, 2, 3, 255] {
+        for field in [[0x07, 0x83], [0x07, 0xC3], [0, 0]] {
+            let mut input = right.clone();
+            input[..2].copy_from_slice(&field);
+            input[VERSION_AT] = version;
+            let name = format!("version byte {version}, length field {field:02x?}");
+            cases.push(model_case(name.clone(), input.clone()));
+            input.push(0);
+            cases.push(model_case(format!("{name}, a byte too many"), input));
+        }
+    }
+    for aim in [15, 17] {
+        for place in 0..8 {
+            let test = confinement_case(&mut rng, 0);
+            let name = format!("image {place} of version 2, for {aim}");
+            cases.push(model_case(name, newer_input(test, aim)));
+        }
     }
     cases
 }

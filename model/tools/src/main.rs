@@ -14,18 +14,18 @@ yavrinks-tools: what uses the reference model of a capability table
 Usage: yavrinks-tools COMMAND
 
 Commands:
-  confine   read an image, members and a list from standard input, and print
-            `accepted` and the bound, one number a line, or `refused N`
+  confine   read an image of version 1, members and a list from standard input,
+            and print `accepted` and the bound, one number a line, or `refused N`
   definitions [--seed N] [--runs N] [--rounds N] [--imports N] [--tests N]
-            [--steps N] [--keep DIR] [--root DIR]
+            [--steps N] [--images N] [--keep DIR] [--root DIR]
             check the definitions of the repository against the model, with the
             toolchain's command `rt`; exit status 1 if an answer differs or
             could not be checked
   program PATH [VERB]
             run the built program `confine` at PATH on the test vectors, on random
-            inputs and on inputs of odd lengths, and compare what it prints; with
-            VERB run `PATH VERB`, whose status must be 0 for accepted, 1 for refused
-            and 2 where standard input is closed
+            inputs, on inputs of odd lengths and on those of other versions, and
+            compare what it prints; with VERB run `PATH VERB`, whose status must be
+            0 for accepted, 1 for refused and 2 where standard input is closed
   two-runs  try demand 3 on random pairs of runs, then on models with a broken
             rule: [--seed N] [--pairs N] [--broken NAME]
   vectors DIR

@@ -5,7 +5,9 @@
 mod lines;
 
 use crate::generate::{ConfinementCase, StepCase};
+pub use lines::ImageLine;
 use lines::{field, hexadecimal, values, StepLine, TestLine};
+use yavrinks_model::step::Request;
 use yavrinks_model::table::Table;
 
 /// The bytes of every import in `vectors/2.2`, in the order of the file.
@@ -32,6 +34,11 @@ pub fn shared_rounds() -> Vec<SharedTest> {
     tests_in(include_str!("../../vectors/2.6/rounds.jsonl"))
 }
 
+/// Every test in `vectors/2.7`, in the order of the file.
+pub fn shared_tests_with_makers() -> Vec<SharedTest> {
+    tests_in(include_str!("../../vectors/2.7/tests.jsonl"))
+}
+
 fn tests_in(text: &str) -> Vec<SharedTest> {
     let lines = values(text);
     lines.iter().map(TestLine::of).map(shared_test).collect()
@@ -55,9 +62,30 @@ pub struct SharedStep {
     pub answer: (u8, Table),
 }
 
-/// Every step in `vectors/2.4`, in the order of the file.
+/// Every step in `vectors/2.4`, in the order of the file. An allocate that is done is answered as 2.7 amends it.
 pub fn shared_steps() -> Vec<SharedStep> {
-    let lines = values(include_str!("../../vectors/2.4/steps.jsonl"));
+    let mut steps = steps_in(include_str!("../../vectors/2.4/steps.jsonl"));
+    for SharedStep { step, answer } in &mut steps {
+        if let (Request::Allocate { actor, n, .. }, 0) = (&step.request, answer.0) {
+            answer.1.record_mut(*n).maker = *actor;
+        }
+    }
+    steps
+}
+
+/// Every step in `vectors/2.7`, in the order of the file.
+pub fn shared_steps_with_makers() -> Vec<SharedStep> {
+    steps_in(include_str!("../../vectors/2.7/steps.jsonl"))
+}
+
+/// Every image in `vectors/2.7`, read or written, in the order of the file.
+pub fn shared_images() -> Vec<ImageLine> {
+    let lines = values(include_str!("../../vectors/2.7/images.jsonl"));
+    lines.iter().map(ImageLine::of).collect()
+}
+
+fn steps_in(text: &str) -> Vec<SharedStep> {
+    let lines = values(text);
     lines.iter().map(StepLine::of).map(shared_step).collect()
 }
 

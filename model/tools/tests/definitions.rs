@@ -6,12 +6,14 @@ use std::fs;
 use std::path::{Path, PathBuf};
 
 use yavrinks_model::confinement::{confinement_test, Tested};
+use yavrinks_model::image::Version;
 use yavrinks_model::step::{step, Request};
 use yavrinks_model::table::{Capability, Record, Table, WK};
 use yavrinks_tools::definitions::askers::askers;
 use yavrinks_tools::definitions::cases::{subjects, Answer, Case, Part, Question};
 use yavrinks_tools::definitions::crates::{case_crates, CaseCrate};
 use yavrinks_tools::definitions::draw::{cases, questions, Counts};
+use yavrinks_tools::definitions::misread_makers;
 use yavrinks_tools::definitions::scratch::Scratch;
 use yavrinks_tools::definitions::specs::{unfoldable, unfoldable_names, with_all_below};
 use yavrinks_tools::definitions::statements::declarations;
@@ -19,10 +21,14 @@ use yavrinks_tools::definitions::verdicts::{verdicts, Verdict};
 use yavrinks_tools::definitions::wrong::wrong_cases;
 use yavrinks_tools::definitions::{summary, terms, Options};
 use yavrinks_tools::empty_kinds::{empty_kinds, EmptyKind};
-use yavrinks_tools::generate::{any_damage, any_sound_table, ConfinementCase, ShownCase};
+use yavrinks_tools::generate::{any_damage, any_sound_table, encode_input};
+use yavrinks_tools::generate::{ConfinementCase, ShownCase};
 use yavrinks_tools::misread_rounds::{Misreading, MISREADINGS};
 use yavrinks_tools::rng::Rng;
-use yavrinks_tools::shared::{shared_imports, shared_rounds, shared_steps, shared_tests};
+use yavrinks_tools::shared::{
+    shared_imports, shared_rounds, shared_steps, shared_steps_with_makers, shared_tests,
+    shared_tests_with_makers,
+};
 
 /// Nothing at all, for a test that asks for something by itself.
 const NOTHING: Counts = Counts {
@@ -31,6 +37,7 @@ const NOTHING: Counts = Counts {
     imports: 0,
     tests: 0,
     steps: 0,
+    images: 0,
 };
 
 fn cases_of(seed: u64, runs: usize, rounds: usize) -> Vec<Case> {
@@ -82,8 +89,13 @@ fn capabilities_and_records_have_short_words() {
     };
     assert_eq!(
         terms::record(&record),
-        "object 3 0 4294967295 18446744073709551615"
+        "object 3 0 4294967295 18446744073709551615 64"
     );
+    let of_maker = Record {
+        maker: 0,
+        ..Record::UNBORN
+    };
+    assert_eq!(terms::record(&of_maker), "object 0 0 0 0 0");
 }
 
 #[test]
@@ -120,7 +132,7 @@ fn read_table(term: &str) -> Table {
         let text = text.replace([';', '}'], "");
         text.split('∷')
             .map(|item| match item.trim() {
-                "unborn" => vec![0; 4],
+                "unborn" => vec![0, 0, 0, 0, 64],
                 "free" => vec![0; 2],
                 item => item
                     .split_whitespace()
@@ -137,6 +149,7 @@ fn read_table(term: &str) -> Table {
         let fields = &records[n];
         (record.status, record.kind) = (fields[0] as u8, fields[1] as u8);
         (record.word, record.stock) = (fields[2] as u32, fields[3]);
+        record.maker = fields[4] as u8;
         for (j, slot) in record.slots.iter_mut().enumerate() {
             let fields = &slots[8 * n + j];
             *slot = Capability::new(fields[0] as u8, fields[1] as u8);
@@ -365,6 +378,62 @@ fn capabilities_are_stated_with_what_they_are_weakened_to() {
     assert!(text.contains(statement), "{text}");
 }
 
+/// On table K the maker of 3 can be nobody, 3 itself or the born 4, not the unborn 7.
+#[test]
+fn soundness_is_stated_for_each_maker() {
+    let case = Case::new(Question::Sound {
+        table: Table::k(),
+        n: 3,
+        makers: vec![64, 3, 4, 7],
+    });
+    let text = declarations(&case, 5, "A.b");
+    assert!(text.starts_with("-- case 5: sound by makers, refused 1\n"));
+    assert!(text.contains("makers-0005 = 64 ∷ 3 ∷ 4 ∷ 7 ∷ []\n"));
+    let statement = "case-0005 : _≡_ {A = List Bool} (map (soundIf table-0005 3) makers-0005) \
+                     (true ∷ true ∷ true ∷ false ∷ [])\n";
+    assert!(text.contains(statement), "{text}");
+}
+
+/// Into a buffer that is too short for either form, without makers and with one.
+#[test]
+fn writing_is_stated_with_its_version() {
+    let mut made = Table::k();
+    made.records[3].maker = 4;
+    for (version, table, name, number) in [
+        (Version::One, Table::k(), "One", 16),
+        (Version::One, made.clone(), "One", 23),
+        (Version::Two, made, "Two", 16),
+    ] {
+        let case = Case::new(Question::Write {
+            version,
+            table,
+            buffer: vec![165, 165],
+        });
+        let text = declarations(&case, 5, "A.b");
+        let from = format!("{name} table-0005 buffer-0005");
+        let statement = format!(
+            "case-0005 : _≡_ {{A = ℕ × List ℕ}} (writeNumber (writeRefusal {from}), writtenOf {from}) \
+             ({number}, after-0005)\n"
+        );
+        assert!(text.contains(&statement), "{text}");
+        assert!(text.contains("after-0005 = 165 ∷ 165 ∷ []\n"), "{text}");
+    }
+}
+
+/// Example 1 of document 01, and the same with another version byte.
+#[test]
+fn decisions_are_stated_with_their_bound() {
+    let mut input = encode_input(&example_1());
+    for (version, answer) in [(1, "0, 7"), (2, "15, 0")] {
+        input[2] = version;
+        let input = input.clone();
+        let text = declarations(&Case::new(Question::Decision { input }), 5, "A.b");
+        let statement =
+            format!("case-0005 : _≡_ {{A = ℕ × ℕ}} (decided (decisionOf input-0005)) ({answer})\n");
+        assert!(text.contains(&statement), "{text}");
+    }
+}
+
 /// Entity 0 has Store and Grant to 1 in slot 1, and nothing that is kept in slot 0.
 #[test]
 fn an_import_is_stated_with_the_table_that_it_becomes() {
@@ -455,7 +524,7 @@ fn the_default_run_asks_everything() {
         .iter()
         .map(|case| (case.question.subject(), case.answer.number()))
         .collect();
-    let expected: [(&str, &[u8]); 25] = [
+    let expected: [(&str, &[u8]); 28] = [
         ("clean along a run", &[0]),
         ("1 read", &[0, 1, 2, 3, 4, 5, 6]),
         ("2 write", &[0, 1, 2, 3, 4, 5, 6]),
@@ -476,8 +545,11 @@ fn the_default_run_asks_everything() {
         ("chain to an object", &[0, 1, 10, 11, 12, 13, 18, 19]),
         ("least chain", &[0]),
         ("potential access", &[0, 1]),
+        ("sound by makers", &[1]),
         ("image read", &[0, 1, 14, 15]),
+        ("image written, older", &[0, 1, 16, 23]),
         ("image written", &[0, 1, 16]),
+        ("what confine decides", &[0, 1, 10, 11, 12, 13, 14, 15, 17]),
         ("import", &[0, 20, 21, 22]),
         ("request as bytes", &[0, 2]),
         ("list as bytes", &[0, 11]),
@@ -549,8 +621,9 @@ fn shared_imports_are_asked_on_demand() {
 fn shared_tests_are_asked_on_demand() {
     let counts = |tests| Counts { tests, ..NOTHING };
     let asked = cases(1, &counts(1000));
-    assert_eq!(asked.len(), 80 + 160);
-    let shared = shared_tests().into_iter().chain(shared_rounds());
+    assert_eq!(asked.len(), 80 + 160 + 80);
+    let shared = shared_tests_with_makers().into_iter().chain(shared_tests());
+    let shared = shared.chain(shared_rounds());
     for (case, shared) in asked.iter().zip(shared) {
         let Answer::Tested(tested) = case.answer else {
             panic!("{case:?}");
@@ -567,8 +640,9 @@ fn shared_tests_are_asked_on_demand() {
 fn shared_steps_are_asked_on_demand() {
     let counts = |steps| Counts { steps, ..NOTHING };
     let asked = cases(1, &counts(1000));
-    assert_eq!(asked.len(), 160);
-    for (case, shared) in asked.iter().zip(shared_steps()) {
+    assert_eq!(asked.len(), 160 + 160);
+    let shared = shared_steps_with_makers().into_iter().chain(shared_steps());
+    for (case, shared) in asked.iter().zip(shared) {
         let (reply, after) = shared.answer;
         assert_eq!(case.answer, Answer::Table(reply, after));
         let question = Question::Step {
@@ -578,6 +652,60 @@ fn shared_steps_are_asked_on_demand() {
         assert_eq!(case, &Case::new(question));
     }
     assert_eq!(cases(1, &counts(7)), asked[..7]);
+}
+
+/// What the file says is expected, and the model says the same.
+#[test]
+fn shared_images_are_asked_on_demand() {
+    let counts = |images| Counts { images, ..NOTHING };
+    let asked = cases(1, &counts(1000));
+    let (mut read, mut written) = (0, 0);
+    for case in &asked {
+        assert_eq!(case, &Case::new(case.question.clone()));
+        match case.question {
+            Question::Read { .. } => read += 1,
+            Question::Write { .. } => written += 1,
+            _ => panic!("{case:?}"),
+        }
+    }
+    assert_eq!((read, written), (16, 32));
+    assert_eq!(cases(1, &counts(7)), asked[..7]);
+}
+
+/// A round asks for soundness with a record of each status, and with makers of each.
+#[test]
+fn every_kind_of_maker_is_asked() {
+    let mut asked = BTreeSet::new();
+    for case in cases_of(1, 0, 1) {
+        let (Question::Sound { table, n, makers }, Answer::Sound(truths)) =
+            (&case.question, &case.answer)
+        else {
+            continue;
+        };
+        for (&maker, &sound) in makers.iter().zip(truths) {
+            let kind = match maker {
+                64 => "nobody",
+                65.. => "no number",
+                _ if maker == *n => "itself",
+                _ => ["unborn", "alive", "dead"][usize::from(table.record(maker).status)],
+            };
+            asked.insert((table.record(*n).status, kind, sound));
+        }
+    }
+    for status in 0..3 {
+        let born = status != 0;
+        for (kind, sound) in [
+            ("nobody", true),
+            ("no number", false),
+            ("itself", born),
+            ("unborn", false),
+            ("alive", born),
+            ("dead", born),
+        ] {
+            assert!(asked.remove(&(status, kind, sound)), "{status}, {kind}");
+        }
+    }
+    assert!(asked.is_empty(), "{asked:?}");
 }
 
 /// A round asks a step of every kind of empty copy, and where copies of every rights value land.
@@ -667,19 +795,38 @@ fn wrong_answers_differ_from_the_right_ones() {
     };
     let worth = wrong.iter().filter(is_worth).count();
     assert_eq!(worth, (4 + 3 + 1) * 16);
-    // Of steps a wrong number, wrong content, and the ten kinds where an empty copy emptied a slot.
+    // Of steps a wrong number, wrong content, the ten kinds where an empty copy emptied a slot, and the six wrong
+    // readings of who is recorded.
     let is_step = |case: &&Case| matches!(case.question, Question::Step { .. });
-    assert_eq!(wrong.iter().filter(is_step).count(), 2 + 10);
+    assert_eq!(wrong.iter().filter(is_step).count(), 2 + 10 + 6);
     // Of what is there in a test of three rounds, a round more at none, one and two.
     let is_there = |case: &&Case| matches!(case.question, Question::There { .. });
     assert_eq!(wrong.iter().filter(is_there).count(), 3);
     // Of tests a wrong number, wrong content, and the wrong readings of how many rounds there are.
     let is_test = |case: &&Case| matches!(case.question, Question::Test(_));
     assert_eq!(wrong.iter().filter(is_test).count(), 2 + MISREADINGS.len());
-    // Of each of seven other kinds a wrong number and wrong content, of least chains wrong content.
-    let others = 2 * 7 + 1;
-    let listed = 3 + 2 * 16 + 16 + worth + 12 + 3 + 2 + MISREADINGS.len();
+    // Of soundness, ten makers of a record of each status.
+    let is_sound = |case: &&Case| matches!(case.question, Question::Sound { .. });
+    assert_eq!(wrong.iter().filter(is_sound).count(), 3 * 10);
+    let of_makers = misread_makers::MISREADINGS.len();
+    // Of each of eight other kinds a wrong number and wrong content, of least chains wrong content.
+    let others = 2 * 8 + 1;
+    let listed = 3 + 2 * 16 + 16 + worth + 12 + 3 + 2 + MISREADINGS.len() + 3 * 10 + of_makers;
     assert_eq!(wrong.len(), Part::ALL.len() + listed + others);
+}
+
+/// In the default run each wrong reading of 2.7 has a statement of its own.
+#[test]
+fn wrong_makers_are_among_the_wrong_answers() {
+    let cases = default_cases();
+    let wrong = wrong_cases(&mut Rng::new(1), &cases);
+    for reading in &misread_makers::MISREADINGS {
+        let says = |case: &&Case| {
+            let right = Case::new(case.question.clone());
+            reading.wrong_answer(&right).as_ref() == Some(&case.answer)
+        };
+        assert!(wrong.iter().any(|case| says(&case)), "{}", reading.name);
+    }
 }
 
 /// In the default run each wrong reading of 2.6 has a statement, and so has a refused test with the rounds that it

@@ -6,8 +6,9 @@ use yavrinks_model::table::{Capability, Table, ACTIVE, ALIVE, ALL_RIGHTS, RD, TX
 use yavrinks_tools::copies::{copies, reply_slot, Copied};
 use yavrinks_tools::empty_kinds::{empty_kinds, EmptyKind};
 use yavrinks_tools::generate::StepCase;
-use yavrinks_tools::shared::shared_steps;
-use yavrinks_tools::vectors::{chain, counts_text, edges, in_chain, in_steps, step_cases};
+use yavrinks_tools::vectors::{
+    chain, counts_text, edges, in_chain, in_steps, shared_step_cases, step_cases,
+};
 
 const FETCH: Code = Code::Fetch;
 const STORE: Code = Code::Store;
@@ -113,12 +114,13 @@ fn kinds_of_allocate() {
     assert_eq!(asked(&[(5, 1), (1, 1)]), later_filled);
 }
 
-/// Without the shared steps, of which one alone has an empty copy on a filled slot.
+/// Without the shared steps, of which one alone is a store of an empty slot on a filled one.
 #[test]
 fn the_cases_of_vectors_have_empty_copies_of_every_kind() {
     let cases = step_cases();
-    let shared: Vec<StepCase> = shared_steps().into_iter().map(|one| one.step).collect();
+    let shared = shared_step_cases();
     assert!(cases.starts_with(&shared));
+    assert_eq!(shared.len(), 160 + 1);
     assert_eq!(in_steps(&shared).of(EmptyKind::Store), 1);
     let counts = in_steps(&cases[shared.len()..]);
     for kind in EmptyKind::ALL {
@@ -343,7 +345,7 @@ fn after(reading: Reading, case: &StepCase) -> Table {
 #[test]
 fn the_cases_of_vectors_tell_wrong_readings_apart() {
     let cases = step_cases();
-    let shared = shared_steps().len();
+    let shared = shared_step_cases().len();
     let right: Reading = |writing| writing.right();
     for case in &cases {
         assert_eq!(after(right, case), step(&case.table, &case.request).1);

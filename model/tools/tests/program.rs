@@ -76,6 +76,23 @@ fn a_program_that_ends_with_0_on_a_refusal_is_found() {
     assert_eq!(output.status.code(), Some(1));
 }
 
+/// Another version byte is refused by 15, whatever the length field says, and an input of another length by 17.
+#[test]
+fn the_program_is_asked_about_other_versions() {
+    let text = String::from_utf8(run(&["program", "true"], &[]).stdout).expect("text");
+    for line in [
+        "version byte 1, length field [07, 83]: expected \"accepted\\n",
+        "version byte 1, length field [07, c3]: expected \"refused 14\\n\"",
+        "version byte 2, length field [07, c3]: expected \"refused 15\\n\"",
+        "version byte 255, length field [00, 00]: expected \"refused 15\\n\"",
+        "version byte 2, length field [07, c3], a byte too many: expected \"refused 17\\n\"",
+        "image 0 of version 2, for 15: expected \"refused 15\\n\"",
+        "image 7 of version 2, for 17: expected \"refused 17\\n\"",
+    ] {
+        assert!(text.contains(line), "{line}: {text}");
+    }
+}
+
 /// The same with the status that goes with each answer, by a script.
 #[test]
 fn a_program_whose_status_tells_the_answer_passes() {

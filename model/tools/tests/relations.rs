@@ -8,7 +8,7 @@ use yavrinks_model::confinement::{confinement_test, Tested};
 use yavrinks_model::set;
 use yavrinks_model::table::{Capability, Record, Table, ALL_RIGHTS};
 use yavrinks_tools::generate::{
-    any_sound_table, confinement_case, ConfinementCase, CONFINEMENT_NUMBERS,
+    any_sound_table, confinement_case, without_makers, ConfinementCase, CONFINEMENT_NUMBERS,
 };
 use yavrinks_tools::rng::Rng;
 use yavrinks_tools::vectors::{test_cases, test_reach, test_rounds};
@@ -190,7 +190,8 @@ fn bound_by_facts(case: &ConfinementCase) -> u64 {
 /// which there are as many as a list has entries, and the other members are unborn.
 fn bound_by_table(case: &ConfinementCase) -> u64 {
     let stand_in = set::numbers(case.members).next().expect("member");
-    let mut table = case.table.clone();
+    // A member that is unborn can be no maker any more.
+    let mut table = without_makers(&case.table);
     for member in set::numbers(case.members) {
         *table.record_mut(member) = Record::UNBORN;
     }

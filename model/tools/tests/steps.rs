@@ -98,10 +98,17 @@ fn expected_stock(before: &Table, request: &Request, n: u8) -> u64 {
 
 fn expected_record(before: &Table, request: &Request, n: u8) -> Record {
     let old = before.record(n);
-    let (status, kind) = match request {
-        Request::Allocate { n: made, kind, .. } if n == *made => (ALIVE, *kind),
-        Request::Destroy { .. } if target_of(before, request) == Some(n) => (DEAD, old.kind),
-        _ => (old.status, old.kind),
+    let (status, kind, maker) = match request {
+        Request::Allocate {
+            n: made,
+            kind,
+            actor,
+            ..
+        } if n == *made => (ALIVE, *kind, *actor),
+        Request::Destroy { .. } if target_of(before, request) == Some(n) => {
+            (DEAD, old.kind, old.maker)
+        }
+        _ => (old.status, old.kind, old.maker),
     };
     let mut slots = old.slots;
     for k in 0..8 {
@@ -113,6 +120,7 @@ fn expected_record(before: &Table, request: &Request, n: u8) -> Record {
         word: expected_word(before, request, n),
         stock: expected_stock(before, request, n),
         slots,
+        maker,
     }
 }
 
@@ -302,7 +310,7 @@ fn every_kind_of_empty_copy_agrees_with_the_formulas() {
 fn likely_requests_have_empty_copies_of_every_kind() {
     let mut rng = Rng::new(14);
     let mut counts: BTreeMap<EmptyKind, u32> = BTreeMap::new();
-    for _ in 0..20_000 {
+    for _ in 0..60_000 {
         let shape = Shape::mixed(&mut rng);
         let table = sound_table(&mut rng, &shape);
         let request = likely_request(&mut rng, &table);

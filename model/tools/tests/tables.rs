@@ -1,11 +1,11 @@
 //! Soundness, in two ways: the library's, and the clauses stated over sets of numbers.
 //! Random sound tables, every kind of damage, and single changed fields are tried.
 
-use std::collections::BTreeSet;
+use std::collections::{BTreeMap, BTreeSet};
 
 use yavrinks_model::access::{potential_access, Access};
 use yavrinks_model::confinement::{confinement_test, Tested};
-use yavrinks_model::image::{encode, read, write, IMAGE_LENGTH};
+use yavrinks_model::image::{encode, read, write, Version};
 use yavrinks_model::step::{step, Request};
 use yavrinks_model::table::{Capability, Record, Table};
 use yavrinks_tools::generate::{any_damage, any_sound_table, damaged_table, Damage};
@@ -21,15 +21,21 @@ fn numbers_with_status(table: &Table, statuses: &[u8]) -> BTreeSet<u8> {
 fn sound_by_sets(table: &Table) -> bool {
     let unborn = numbers_with_status(table, &[0]);
     let born = numbers_with_status(table, &[1, 2]);
+    let mut makers = born.clone();
+    makers.insert(64);
     let mut stocked = BTreeSet::new();
     for (n, record) in table.records.iter().enumerate() {
         let n = n as u8;
         if record.status > 2 || record.kind > 1 || (unborn.contains(&n) && record.kind != 0) {
             return false;
         }
+        if !makers.contains(&record.maker) || (unborn.contains(&n) && record.maker != 64) {
+            return false;
+        }
         let blank = Record {
             status: record.status,
             kind: record.kind,
+            maker: record.maker,
             ..Record::UNBORN
         };
         if record.status != 1 && *record != blank {
@@ -87,12 +93,62 @@ fn assert_refused_everywhere(table: &Table) {
     assert_eq!(potential_access(table), (1, Access::none()));
     let tested = confinement_test(table, 0, &[(0, 0); 9]);
     assert_eq!(tested, Tested::empty(1));
-    assert_eq!(read(&encode(table)), (1, Table::unborn()));
-    for length in [0, IMAGE_LENGTH, IMAGE_LENGTH + 5] {
-        let mut buffer = vec![0xA5; length];
-        assert_eq!(write(table, &mut buffer), 1);
-        assert!(buffer.iter().all(|&byte| byte == 0xA5));
+    let image = encode(Version::Two, table);
+    assert_eq!(read(&image), (1, Table::unborn()));
+    for version in Version::ALL {
+        for length in [0, 1923, 1987, 1992] {
+            let mut buffer = vec![0xA5; length];
+            assert_eq!(write(version, table, &mut buffer), 1);
+            assert!(buffer.iter().all(|&byte| byte == 0xA5));
+        }
     }
+}
+
+/// Damage of makers is gone in version 1, and no other is.
+#[test]
+fn damage_shows_in_images_of_the_version() {
+    let mut rng = Rng::new(4);
+    for kind in Damage::ALL {
+        for _ in 0..20 {
+            let table = damaged_table(&mut rng, kind);
+            for version in Version::ALL {
+                let expected = u8::from(kind.shows_in(version));
+                assert_eq!(read(&encode(version, &table)).0, expected, "{kind:?}");
+            }
+        }
+    }
+}
+
+/// Random tables have makers that are alive, dead, the object itself and 64, in alive and in dead records; and
+/// some have none at all.
+#[test]
+fn random_tables_have_makers_of_every_kind() {
+    let mut rng = Rng::new(5);
+    let mut kinds: BTreeMap<(u8, &str), u32> = BTreeMap::new();
+    let mut without = 0;
+    for _ in 0..500 {
+        let table = any_sound_table(&mut rng);
+        without += u32::from(!table.has_makers());
+        for (n, record) in (0..).zip(&table.records) {
+            let maker = match record.maker {
+                64 => "nobody",
+                maker if maker == n => "itself",
+                maker if table.record(maker).is_alive() => "alive",
+                _ => "dead",
+            };
+            *kinds.entry((record.status, maker)).or_default() += 1;
+        }
+    }
+    println!("{kinds:?}, {without} without makers");
+    for status in [1, 2] {
+        for maker in ["nobody", "itself", "alive", "dead"] {
+            assert!(kinds[&(status, maker)] > 50, "{status}, {maker}");
+        }
+    }
+    assert!(kinds
+        .keys()
+        .all(|&(status, maker)| status != 0 || maker == "nobody"));
+    assert!((100..400).contains(&without));
 }
 
 #[test]
@@ -114,8 +170,9 @@ fn changed_fields_are_judged_alike_by_both_ways() {
 /// Changes one field of one record, mostly to a value near the range of sound ones.
 fn change_field(rng: &mut Rng, table: &mut Table) {
     let record = &mut table.records[rng.between(0, 63) as usize];
-    match rng.between(0, 4) {
+    match rng.between(0, 5) {
         0 => record.status = rng.byte(0, 3),
+        5 => record.maker = rng.byte(0, 66),
         1 => record.kind = rng.byte(0, 2),
         2 => record.word = rng.byte(0, 1).into(),
         3 => record.stock ^= 1 << rng.between(0, 63),

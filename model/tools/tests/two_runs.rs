@@ -15,7 +15,8 @@ use yavrinks_tools::generate::{
 };
 use yavrinks_tools::rng::Rng;
 use yavrinks_tools::two_runs::rules::{Access, Naming, Rounds, StandIn, Unlisted};
-use yavrinks_tools::two_runs::rules::{Destroyed, Empty, Makes, Rules, Weakening, BROKEN};
+use yavrinks_tools::two_runs::rules::{Destroyed, Empty, Makers, Makes, Recorded};
+use yavrinks_tools::two_runs::rules::{Rules, Weakening, BROKEN};
 use yavrinks_tools::two_runs::runs::Move;
 use yavrinks_tools::two_runs::shrink::{replay, shrink};
 use yavrinks_tools::two_runs::start::draw_start;
@@ -43,6 +44,10 @@ fn the_model_keeps_the_claim() {
         assert!(empty.all > 1000 && empty.on_filled > 500, "{empty:?}");
         assert!(empty.weakened_to_nothing > 50, "{empty:?}");
     }
+    assert!(trial.made_by_clean > 500, "{}", trial.made_by_clean);
+    assert!(trial.made_by_members > 100, "{}", trial.made_by_members);
+    assert!(trial.made_by_others > 100, "{}", trial.made_by_others);
+    assert!(trial.maker_dead_in_one > 20, "{}", trial.maker_dead_in_one);
     for code in 1..=8 {
         let (clean, others) = trial.tally.by_code(code);
         let counts = [clean.done, clean.refused, others.done, others.refused];
@@ -54,6 +59,28 @@ fn the_model_keeps_the_claim() {
     for actor in Actor::ALL {
         assert!(trial.tally.by_actor(actor).refused > 50, "{actor:?}");
     }
+}
+
+/// What the two start tables say of makers: those of members differ, those of the others do not, and the maker of an
+/// object can be any that is born.
+#[test]
+fn start_tables_have_makers_of_every_kind() {
+    let mut rng = Rng::new(55);
+    let (mut differ, mut by_member, mut by_dead, mut by_itself) = (0, 0, 0, 0);
+    for _ in 0..500 {
+        let start = draw_start(&mut rng);
+        for n in 0..64 {
+            let (first, second) = (start.first.record(n), start.second.record(n));
+            differ += u32::from(first.maker != second.maker);
+            let outside = !set::contains(start.members, n) && first.maker != 64;
+            let maker = first.maker % 64;
+            by_member += u32::from(outside && set::contains(start.members, maker));
+            by_dead += u32::from(outside && !start.first.record(maker).is_alive());
+            by_itself += u32::from(outside && maker == n);
+        }
+    }
+    println!("{differ} differ; by members {by_member}, by dead {by_dead}, by itself {by_itself}");
+    assert!(differ > 200 && by_member > 200 && by_dead > 100 && by_itself > 100);
 }
 
 #[test]
@@ -186,10 +213,11 @@ fn may_change(rules: &Rules, code: u8) -> bool {
     let weakening = rules.weakening != Weakening::ToWk;
     let empty = rules.empty != Empty::WhatItHeld;
     match code {
+        1 => rules.makers == Makers::TakenByReader,
         3 => weakening || empty,
         4 | 6 => empty,
-        7 => empty || rules.makes != Makes::OwnStock,
-        8 => rules.destroyed != Destroyed::Kind,
+        7 => empty || rules.makes != Makes::OwnStock || rules.recorded != Recorded::Actor,
+        8 => rules.destroyed != Destroyed::Kind || rules.makers == Makers::GoWithMaker,
         _ => false,
     }
 }

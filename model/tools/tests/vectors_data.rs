@@ -1,19 +1,20 @@
 //! The cases of the program `vectors`: enough of each kind, every refusal and every request reached,
 //! and the files in the program's crate are those that the generator makes.
 
-use std::collections::BTreeMap;
+use std::collections::{BTreeMap, BTreeSet};
 use std::fs;
 
 use yavrinks_model::chain::chain as shown_chain;
 use yavrinks_model::confinement::{confinement_test, Tested};
-use yavrinks_model::image::{read, write};
+use yavrinks_model::image::{read, write, Version, VERSION_AT};
 use yavrinks_model::step::{step, step_in_place, Request};
-use yavrinks_model::table::{Capability, TX};
+use yavrinks_model::table::{Capability, Table, TX, UNBORN};
 use yavrinks_model::take_grant::import;
 use yavrinks_tools::copies::reply_slot;
-use yavrinks_tools::generate::{can_meet, StepCase};
+use yavrinks_tools::generate::{can_meet, without_makers, StepCase, WriteCase};
 use yavrinks_tools::repository::root;
-use yavrinks_tools::shared::{shared_imports, shared_tests};
+use yavrinks_tools::shared::{shared_images, shared_imports, ImageLine};
+use yavrinks_tools::shared::{shared_tests, shared_tests_with_makers};
 use yavrinks_tools::vectors::{
     access_cases, chain, edges, image_cases, import_cases, output, parts, shown_cases, step_cases,
     test_cases, test_rounds, write_cases,
@@ -37,26 +38,136 @@ fn expect(counts: &BTreeMap<u8, usize>, least: &[(u8, usize)]) {
     }
 }
 
+/// The number that writing gives into a buffer of so many bytes.
+fn written(version: Version, table: &Table, room: usize) -> u8 {
+    write(version, table, &mut vec![0; room])
+}
+
 #[test]
-fn images_are_half_whole_and_reach_every_refusal() {
+fn images_are_whole_in_both_versions_and_reach_every_refusal() {
     let cases = image_cases();
     let numbers = cases.iter().map(|case| read(&case.image).0);
     expect(&counts(numbers), &[(0, 100), (1, 48), (14, 40), (15, 15)]);
     assert!(cases.len() >= 220);
-    let whole = cases.iter().filter(|case| read(&case.image).0 == 0);
-    assert_eq!(2 * whole.count(), cases.len());
-    let written = cases
-        .iter()
-        .map(|case| write(&read(&case.image).1, &mut vec![0; case.room]));
-    expect(&counts(written), &[(0, 100), (16, 60)]);
+    for version in Version::ALL {
+        let of_version = cases.iter().filter(|case| {
+            let number = case.image.get(VERSION_AT);
+            number == Some(&version.number())
+        });
+        let numbers = counts(of_version.map(|case| read(&case.image).0));
+        expect(&numbers, &[(0, 50), (1, 18), (14, 15)]);
+    }
+    let of_version = |version| {
+        let tables = cases.iter().map(|case| (read(&case.image).1, case.room));
+        counts(tables.map(|(table, room)| written(version, &table, room)))
+    };
+    expect(&of_version(Version::Two), &[(0, 100), (16, 60)]);
+    expect(&of_version(Version::One), &[(0, 100), (16, 40), (23, 20)]);
+    let rooms = counts(cases.iter().map(|case| case.room));
+    for room in [0, 1, 1922, 1923, 1924, 1986, 1987, 1988] {
+        assert!(rooms[&room] >= 15, "{room}: {rooms:?}");
+    }
+}
+
+/// Heads that do not fit, by the length of the slice.
+#[test]
+fn images_have_every_wrong_head() {
+    let heads: BTreeSet<(usize, Vec<u8>)> = image_cases()
+        .into_iter()
+        .map(|case| (case.image.len(), case.image.into_iter().take(3).collect()))
+        .collect();
+    let has = |length, head: &[u8]| heads.contains(&(length, head.to_vec()));
+    for (length, head) in [
+        (1923, [0x07, 0xC3, 2]),
+        (1923, [0x07, 0xC3, 1]),
+        (1923, [0x07, 0x83, 2]),
+        (1987, [0x07, 0x83, 1]),
+        (1987, [0x07, 0x83, 2]),
+        (1987, [0x07, 0xC3, 1]),
+        (1922, [0x07, 0x82, 1]),
+        (1988, [0x07, 0xC4, 2]),
+        (1924, [0x07, 0x84, 1]),
+        (1986, [0x07, 0xC2, 2]),
+    ] {
+        assert!(has(length, &head), "{length}: {head:02x?}");
+    }
+    for version in [0, 3, 255] {
+        let at = |length| {
+            let mut of_length = heads.iter().filter(|head| head.0 == length);
+            of_length.any(|(_, head)| head[VERSION_AT] == version)
+        };
+        assert!([3, 4, 1922, 1923, 1987, 1988].into_iter().all(at));
+    }
+    assert!((0..3).all(|length| heads.iter().any(|head| head.0 == length)));
 }
 
 #[test]
 fn tables_are_written_and_refused() {
-    let written = write_cases()
-        .into_iter()
-        .map(|case| write(&case.table, &mut vec![0; case.room]));
-    expect(&counts(written), &[(0, 3), (1, 32), (16, 1)]);
+    let cases = write_cases();
+    let of_version = |version| {
+        let numbers = cases
+            .iter()
+            .map(|case| written(version, &case.table, case.room));
+        counts(numbers)
+    };
+    expect(&of_version(Version::Two), &[(0, 10), (1, 55), (16, 20)]);
+    expect(
+        &of_version(Version::One),
+        &[(0, 8), (1, 55), (16, 8), (23, 16)],
+    );
+}
+
+/// A maker is the only offence of some tables, of each kind, in the first and in the last record too.
+#[test]
+fn makers_alone_make_tables_unsound() {
+    let mut kinds = BTreeSet::new();
+    for WriteCase { table, .. } in write_cases() {
+        if table.is_sound() || !without_makers(&table).is_sound() {
+            continue;
+        }
+        for (n, record) in (0..).zip(&table.records) {
+            let kind = match (record.status, record.maker) {
+                (_, 64) => continue,
+                (_, 65..) => "no number",
+                (UNBORN, maker) if table.is_born(maker) => "of an unborn record",
+                (UNBORN, _) => "an unborn number, of an unborn record",
+                (_, maker) if table.is_born(maker) => continue,
+                _ => "an unborn number",
+            };
+            let place = match n {
+                0 => "first",
+                63 => "last",
+                _ => "between",
+            };
+            kinds.insert((kind, place));
+        }
+    }
+    for kind in [
+        "no number",
+        "of an unborn record",
+        "an unborn number, of an unborn record",
+        "an unborn number",
+    ] {
+        for place in ["first", "last"] {
+            assert!(kinds.contains(&(kind, place)), "{kind}, {place}");
+        }
+    }
+}
+
+/// All 48 shared images: those that are read as images, those that are written as tables.
+#[test]
+fn the_shared_images_are_there() {
+    let (images, writes) = (image_cases(), write_cases());
+    for line in shared_images() {
+        let there = match line {
+            ImageLine::Read { bytes, .. } => images.iter().any(|case| case.image == bytes),
+            ImageLine::Write { table, before, .. } => {
+                let room = before.len();
+                writes.contains(&WriteCase { table, room })
+            }
+        };
+        assert!(there);
+    }
 }
 
 #[test]
@@ -73,7 +184,7 @@ fn steps_reach_every_reply_of_every_request() {
             let known = (1..=8).contains(&code);
             let least = match reply {
                 0 => 16,
-                _ if known => 5,
+                _ if known => 4,
                 _ => 0,
             };
             let times = replies.get(&(code, reply)).copied().unwrap_or(0);
@@ -181,8 +292,10 @@ fn tests_reach_every_verdict() {
         assert!(cases.iter().any(|case| case.list.len() == length));
     }
     assert!(cases.iter().any(|case| case.list.len() == 255));
-    let shared = shared_tests();
-    assert!(shared.iter().all(|shared| cases.contains(&shared.test)));
+    let shared = shared_tests().into_iter().chain(shared_tests_with_makers());
+    for shared in shared {
+        assert!(cases.contains(&shared.test));
+    }
 }
 
 /// The rounds of accepted tests, and of what the holder of the list reaches, of refused ones too.
@@ -237,7 +350,7 @@ fn relations_are_of_full_and_of_unsound_tables_too() {
 #[test]
 fn chains_are_shown_for_every_outcome() {
     let cases = shown_cases();
-    assert!((250..=270).contains(&cases.len()), "{}", cases.len());
+    assert!((220..=240).contains(&cases.len()), "{}", cases.len());
     let answers: Vec<(u8, Vec<u8>)> = cases
         .iter()
         .map(|case| {
@@ -247,13 +360,13 @@ fn chains_are_shown_for_every_outcome() {
         .collect();
     let least = [
         (0, 90),
-        (1, 14),
-        (10, 14),
-        (11, 17),
-        (12, 14),
-        (13, 14),
-        (18, 40),
-        (19, 27),
+        (1, 11),
+        (10, 11),
+        (11, 14),
+        (12, 11),
+        (13, 11),
+        (18, 35),
+        (19, 25),
     ];
     expect(&counts(answers.iter().map(|answer| answer.0)), &least);
     let lengths = counts(answers.iter().map(|answer| answer.1.len()));

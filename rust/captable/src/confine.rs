@@ -28,8 +28,9 @@ impl Printed {
     }
 }
 
-/// The confinement test of the program `confine`: an image, 8 bytes of members, a count byte, and two bytes
-/// an entry.
+/// The confinement test of the program `confine`: an image of version 1, as
+/// [`Table::to_older_image`](crate::Table::to_older_image) gives it, 8 bytes of members, a count byte, and two bytes an
+/// entry. An input of a wrong length is refused by 17, and then any other version byte than 1 by 15.
 ///
 /// ```
 /// let printed = captable::confine(b"no image");

@@ -38,6 +38,34 @@
 //! # Ok::<(), StepRefusal>(())
 //! ```
 //!
+//! # Who made it
+//!
+//! Each record says [who made the object](Record::made_by): the actor of its allocate, or nobody for an object that was
+//! not made in a run. So a table of zeros is not sound, for its unborn records have the maker 0: a new one begins as
+//! [`Table::unborn`].
+//!
+//! Images of version 2, [`IMAGE_BYTES`] long, have the makers. Those of version 1, [`OLDER_IMAGE_BYTES`] long, have no
+//! place for them. Both are [read](Table::from_image), and a table goes [back to version 1](Table::to_older_image) as
+//! long as it has no maker. [`confine`] takes version 1 alone.
+//!
+//! ```
+//! use captable::{PairList, Request, Set, StepRefusal, Table, WriteOlderRefusal, ACTIVE, ALIVE};
+//!
+//! let mut table = Table::unborn();
+//! table.record_mut(5).status = ALIVE;
+//! table.record_mut(5).kind = ACTIVE;
+//! table.record_mut(5).stock = Set::of(&[10]);
+//! let older = table.to_older_image().unwrap();
+//! assert_eq!(Table::from_image(&older).unwrap(), table);
+//!
+//! let (part, list) = (Set::EMPTY, PairList::EMPTY);
+//! table.step(&Request::Allocate { actor: 5, n: 10, kind: ACTIVE, part, i: 0, list })?;
+//! assert_eq!(table.record(10).made_by(), Some(5));
+//! assert_eq!(table.record(5).made_by(), None);
+//! assert_eq!(table.to_older_image(), Err(WriteOlderRefusal::MakerRecorded));
+//! # Ok::<(), StepRefusal>(())
+//! ```
+//!
 //! # One caller at a time
 //!
 //! A step copies the table out, works on the copy and copies it back. A second step on the same table
@@ -183,7 +211,8 @@ pub use finding::Finding;
 pub use pairs::{Pair, PairList, TooManyPairs, MAX_PAIRS};
 pub use raw::{Capability, Record};
 pub use refusal::{
-    AccessRefusal, ChainRefusal, ImportRefusal, ReadRefusal, StepRefusal, TestRefusal, WriteRefusal,
+    AccessRefusal, ChainRefusal, ImportRefusal, ReadRefusal, StepRefusal, TestRefusal,
+    WriteOlderRefusal, WriteRefusal,
 };
 pub use relation::{Relation, Right};
 pub use request::{Request, RequestBytes, NO_REPLY, REQUEST_BYTES};
@@ -194,8 +223,10 @@ pub use table::Table;
 pub const OBJECTS: u8 = 64;
 /// The number of slots of an object.
 pub const SLOTS: u8 = 8;
-/// The length of an image in bytes.
-pub const IMAGE_BYTES: usize = 1923;
+/// The length of an image in bytes: of version 2, which has the makers.
+pub const IMAGE_BYTES: usize = 1987;
+/// The length of an image of the older form in bytes: of version 1, which has no place for makers.
+pub const OLDER_IMAGE_BYTES: usize = 1923;
 /// The length of the longest import in bytes: 64 entities with eight capabilities each.
 pub const IMPORT_BYTES: usize = 1092;
 /// The most entries that the list of a test may have. What a member holds with [`WK`] alone needs none.
@@ -213,6 +244,9 @@ pub const PASSIVE: u8 = 0;
 /// Kind of an object that makes requests and can be sent to.
 pub const ACTIVE: u8 = 1;
 
+/// The [maker](Record::maker) of an object that was not made in a run, and of an unborn record.
+pub const NO_MAKER: u8 = 64;
+
 /// The right to read.
 pub const RD: u8 = 1;
 /// The right to write.
@@ -225,7 +259,7 @@ pub const TX: u8 = 8;
 
 /// The version of the calls that this crate was written for: 65,536 times the first number, 256 times the
 /// second, and the third.
-pub const VERSION: u32 = 0x00_07_00;
+pub const VERSION: u32 = 0x00_08_00;
 
 /// The version of the calls that were linked. Where it is not [`VERSION`], the archive is another than the
 /// crate was written for.

@@ -4,7 +4,7 @@
 //! boundary: a slice goes as its pointer and then its length, and every answer is a number of document 01
 //! or 02, 0 for done. The structs are `Copy`, as C's are, since the calls take them by value.
 
-use crate::Set;
+use crate::{Set, NO_MAKER};
 
 /// What a slot holds: a target, and rights over it (1 rd, 2 wr, 4 wk, 8 tx). All zero is an empty slot.
 #[repr(C)]
@@ -25,14 +25,16 @@ impl Capability {
     };
 }
 
-/// An object's record.
+/// An object's record. Its default is [`Record::UNBORN`], which is not all zero.
 #[repr(C)]
-#[derive(Clone, Copy, Debug, Default, PartialEq, Eq)]
+#[derive(Clone, Copy, Debug, PartialEq, Eq)]
 pub struct Record {
     /// 0 unborn, 1 alive, 2 dead.
     pub status: u8,
     /// 0 passive, 1 active.
     pub kind: u8,
+    /// The number of the object that made it, or [`NO_MAKER`]; see [`made_by`](Record::made_by).
+    pub maker: u8,
     /// The object's word.
     pub word: u32,
     /// The unborn numbers that the object may make objects of. It crosses as its 64 bits.
@@ -44,12 +46,35 @@ impl Record {
     pub const UNBORN: Record = Record {
         status: 0,
         kind: 0,
+        maker: NO_MAKER,
         word: 0,
         stock: Set::EMPTY,
     };
+
+    /// Who made the object: the actor of its allocate. None for an object that was not made in a run, as those are
+    /// that an import brings in or that an image of version 1 has, and for a number that no object has yet.
+    ///
+    /// An allocate writes it and nothing else changes it; a dead object keeps it. In a sound table the maker is born,
+    /// and may be dead by now. It is there for service to look at, and is no authority: no call asks for it but to
+    /// see whether the table is sound.
+    #[must_use]
+    pub const fn made_by(&self) -> Option<u8> {
+        match self.maker {
+            NO_MAKER => None,
+            maker => Some(maker),
+        }
+    }
 }
 
-/// The table: 64 records, and slot j of object n at n * 8 + j.
+/// The record of a number that no object has yet.
+impl Default for Record {
+    fn default() -> Record {
+        Record::UNBORN
+    }
+}
+
+/// The table: 64 records, and slot j of object n at n * 8 + j. One of zeros is not sound, since its unborn records have
+/// the maker 0: every call that takes it answers 1.
 #[repr(C)]
 #[derive(Clone, Copy, Debug, PartialEq, Eq)]
 pub struct Table {
@@ -109,6 +134,8 @@ pub struct Shown {
 extern "C" {
     /// The version of these calls: see [`VERSION`](crate::VERSION).
     pub fn captable_version() -> u32;
+    /// The wholly unborn table.
+    pub fn captable_unborn() -> Table;
     /// 0 for a sound table, 1 for any other.
     pub fn captable_sound(table: Table) -> u8;
     /// One request on the lent table. A refusal leaves the table as it was, and a copy that comes out empty the
@@ -145,7 +172,7 @@ extern "C" {
         length: usize,
         object: u8,
     ) -> Shown;
-    /// Reads an image; on every refusal with the wholly unborn table.
+    /// Reads an image of either version; on every refusal with the wholly unborn table.
     ///
     /// # Safety
     /// `image` points to `length` bytes.
@@ -156,11 +183,17 @@ extern "C" {
     /// # Safety
     /// `bytes` points to `length` bytes.
     pub fn captable_import(bytes: *const u8, length: usize) -> Outcome;
-    /// Writes a table's image into the first 1,923 bytes of a buffer. A refusal leaves every byte.
+    /// Writes a table's image, of version 2, into the first 1,987 bytes of a buffer. A refusal leaves every byte.
     ///
     /// # Safety
     /// `buffer` points to `length` bytes that nothing else uses during the call.
     pub fn captable_write(table: Table, buffer: *mut u8, length: usize) -> u8;
+    /// Writes the older form, an image of version 1, into the first 1,923 bytes of a buffer, unless some maker is not
+    /// 64. A refusal leaves every byte.
+    ///
+    /// # Safety
+    /// `buffer` points to `length` bytes that nothing else uses during the call.
+    pub fn captable_write_older(table: Table, buffer: *mut u8, length: usize) -> u8;
     /// Puts what the program `confine` prints for the input at the start of a buffer of 256 bytes, leaves
     /// the rest of it, and says how many bytes that is.
     ///

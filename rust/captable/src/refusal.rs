@@ -119,9 +119,10 @@ refusals! {
     ReadRefusal {
         /// The image's table is not sound.
         TableUnsound = 1, "the image's table is not sound";
-        /// The image has not 1,923 bytes, or its length field says otherwise.
+        /// There are fewer than three bytes, or the image has not the length of its version, 1,923 or 1,987 bytes, in
+        /// the slice and in the length field.
         LengthWrong = 14, "the image has a wrong length";
-        /// The version byte is not 1.
+        /// The version byte is neither 1 nor 2.
         VersionWrong = 15, "the image has a wrong version";
     }
 }
@@ -131,6 +132,19 @@ refusals! {
     WriteRefusal {
         /// The table is not sound.
         TableUnsound = 1, "the table is not sound";
+        /// The buffer has fewer than 1,987 bytes.
+        BufferShort = 16, "the buffer is too short";
+    }
+}
+
+refusals! {
+    /// Why an image of the older form was not written, in the order of its checks. The buffer is as it was.
+    WriteOlderRefusal {
+        /// The table is not sound.
+        TableUnsound = 1, "the table is not sound";
+        /// Some maker is not 64, and the older form has no place for it. An object that was made in a run keeps its
+        /// maker when it dies, so a table in which an allocate was done has no older form any more.
+        MakerRecorded = 23, "some maker is not 64, and the older form has no place for it";
         /// The buffer has fewer than 1,923 bytes.
         BufferShort = 16, "the buffer is too short";
     }

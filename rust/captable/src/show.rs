@@ -1,5 +1,5 @@
-//! A table for a reader. 64 records with eight slots each are mostly zero, so what is wholly unborn and
-//! what is empty is left out.
+//! A table for a reader. 64 records with eight slots each are mostly unborn and empty, so what is wholly unborn, made by
+//! nobody or empty is left out.
 
 use core::fmt;
 
@@ -37,8 +37,8 @@ struct Object<'a> {
 }
 
 impl Object<'_> {
-    /// Unborn, and nothing beside it. An unborn record with a word is not: its table is not sound, and
-    /// that has to be seen.
+    /// Unborn, and nothing beside it. An unborn record with a word or a maker is not: its table is not sound,
+    /// and that has to be seen.
     fn is_nothing(&self) -> bool {
         *self.record == Record::UNBORN && self.slots.iter().all(|slot| *slot == Capability::EMPTY)
     }
@@ -56,6 +56,9 @@ impl fmt::Debug for Object<'_> {
             PASSIVE => write!(out, " passive")?,
             ACTIVE => write!(out, " active")?,
             other => write!(out, " kind {other}")?,
+        }
+        if let Some(maker) = self.record.made_by() {
+            write!(out, ", made by {maker}")?;
         }
         if self.record.word != 0 {
             write!(out, ", word {}", self.record.word)?;

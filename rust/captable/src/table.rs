@@ -4,8 +4,8 @@ use crate::raw;
 use crate::request::REQUEST_BYTES;
 use crate::{AccessRefusal, ChainRefusal, ImportRefusal, ReadRefusal};
 use crate::{Capability, Chain, Finding, Record, Relation, Request, Set};
-use crate::{StepRefusal, TestRefusal, WriteRefusal};
-use crate::{IMAGE_BYTES, MAX_ENTRIES, OBJECTS, SLOTS};
+use crate::{StepRefusal, TestRefusal, WriteOlderRefusal, WriteRefusal};
+use crate::{IMAGE_BYTES, MAX_ENTRIES, OBJECTS, OLDER_IMAGE_BYTES, SLOTS};
 
 /// The capability table: 64 records with eight slots each. Any value may be put into it; every call
 /// checks that it is sound first.
@@ -37,7 +37,8 @@ impl Default for Table {
 }
 
 impl Table {
-    /// The wholly unborn table, which is sound. It can be the first value of a `static`.
+    /// The wholly unborn table, which is sound: zeros, but for the maker of each record, which is
+    /// [`NO_MAKER`](crate::NO_MAKER). It can be the first value of a `static`.
     #[must_use]
     pub const fn unborn() -> Table {
         Table(raw::Table {
@@ -46,10 +47,13 @@ impl Table {
         })
     }
 
-    /// The table of an image.
+    /// The table of an image of version 1 or 2. One of version 1 gives every record [`NO_MAKER`](crate::NO_MAKER), and
+    /// goes back by [`to_older_image`](Table::to_older_image) to equal bytes.
     ///
     /// # Errors
-    /// 14 for a wrong length, 15 for a wrong version, 1 for a table that is not sound.
+    /// 14 for fewer than three bytes; then 15 for a version byte that is neither 1 nor 2, at any length; then 14
+    /// unless the slice and the length field have the length of that version, 1,923 or 1,987; then 1 for a table that
+    /// is not sound.
     pub fn from_image(image: &[u8]) -> Result<Table, ReadRefusal> {
         // SAFETY: the pointer and the length are of one slice.
         let outcome = unsafe { raw::captable_read(image.as_ptr(), image.len()) };
@@ -66,7 +70,8 @@ impl Table {
     /// Entities are numbered from 0 as they come, and become alive and active, with word 0 and no stock. Their
     /// capabilities go into their slots in order: Read becomes rd, Write wr, Grant tx, Store rd and wr
     /// together, Create nothing; a capability that is left with no right gives an empty slot in its place.
-    /// All other numbers are unborn, and since they are in no stock, no object can be made in this table.
+    /// All other numbers are unborn, and since they are in no stock, no object can be made in this table. Nobody made
+    /// what it has.
     ///
     /// ```
     /// use captable::{Capability, ImportRefusal, Set, Table, RD, WR};
@@ -97,10 +102,10 @@ impl Table {
         Ok(Table(outcome.table))
     }
 
-    /// Writes the image into the buffer's first [`IMAGE_BYTES`] bytes. A refusal leaves every byte.
+    /// Writes the image, of version 2, into the buffer's first [`IMAGE_BYTES`] bytes. A refusal leaves every byte.
     ///
     /// # Errors
-    /// 1 for a table that is not sound, 16 for a buffer that is too short.
+    /// 1 for a table that is not sound, then 16 for a buffer that is too short.
     pub fn write_image(&self, buffer: &mut [u8]) -> Result<(), WriteRefusal> {
         // SAFETY: the pointer and the length are of one slice, which is borrowed for the call alone.
         WriteRefusal::check(unsafe {
@@ -115,6 +120,29 @@ impl Table {
     pub fn to_image(&self) -> Result<[u8; IMAGE_BYTES], WriteRefusal> {
         let mut image = [0; IMAGE_BYTES];
         self.write_image(&mut image)?;
+        Ok(image)
+    }
+
+    /// Writes the older form, an image of version 1, into the buffer's first [`OLDER_IMAGE_BYTES`] bytes. A refusal
+    /// leaves every byte.
+    ///
+    /// # Errors
+    /// 1 for a table that is not sound, then 23 if some [maker](Record::made_by) is recorded, that of a dead object
+    /// too, then 16 for a buffer that is too short.
+    pub fn write_older_image(&self, buffer: &mut [u8]) -> Result<(), WriteOlderRefusal> {
+        // SAFETY: the pointer and the length are of one slice, which is borrowed for the call alone.
+        WriteOlderRefusal::check(unsafe {
+            raw::captable_write_older(self.0, buffer.as_mut_ptr(), buffer.len())
+        })
+    }
+
+    /// The older form as an array, such as an input of [`confine`](crate::confine()) begins with.
+    ///
+    /// # Errors
+    /// 1 for a table that is not sound, then 23 if some [maker](Record::made_by) is recorded.
+    pub fn to_older_image(&self) -> Result<[u8; OLDER_IMAGE_BYTES], WriteOlderRefusal> {
+        let mut image = [0; OLDER_IMAGE_BYTES];
+        self.write_older_image(&mut image)?;
         Ok(image)
     }
 

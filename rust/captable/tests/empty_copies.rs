@@ -281,9 +281,10 @@ fn a_send_to_oneself_copies_the_slots_as_they_were() {
     });
 }
 
-/// 10 as it is made, with nothing in its slots, and held by the actor in slot i.
+/// 10 as 0 makes it, with nothing in its slots, and held by the actor in slot i.
 fn made(table: &mut Table, i: u8) {
     table.record_mut(10).status = ALIVE;
+    table.record_mut(10).maker = 0;
     table.record_mut(0).stock = set(&[11]);
     *table.slot_mut(0, i) = cap(10, 15);
 }

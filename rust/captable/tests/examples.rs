@@ -1,4 +1,5 @@
-//! The examples of document 01, through the wrapper; example 2 as document 02, 2.3, amends it.
+//! The examples of document 01, through the wrapper; example 2 as document 02, 2.3, amends it, and example 12 on the
+//! version of 2.7 that it is about.
 
 mod common;
 
@@ -99,7 +100,7 @@ fn potential_access_of_example_11() {
 
 #[test]
 fn images_of_example_12_and_back() {
-    let image = k().to_image().expect("K is sound");
+    let image = k().to_older_image().expect("K is sound");
     assert_eq!(image[..3], [0x07, 0x83, 0x01]);
     assert_eq!(Table::from_image(&image), Ok(k()));
     assert_eq!(

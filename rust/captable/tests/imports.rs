@@ -4,7 +4,7 @@
 mod common;
 
 use captable::{Capability, ImportRefusal, Record, Request, Right, Set, Table};
-use captable::{ACTIVE, ALIVE, IMPORT_BYTES, RD, TX, WR};
+use captable::{ACTIVE, ALIVE, IMPORT_BYTES, NO_MAKER, RD, TX, WR};
 use common::{cap, found, set};
 
 /// Source document 001's rights, as the request adds them up.
@@ -77,6 +77,7 @@ fn entities_become_objects_in_their_order() {
                 Record {
                     status: ALIVE,
                     kind: ACTIVE,
+                    maker: NO_MAKER,
                     word: 0,
                     stock: Set::EMPTY,
                 }

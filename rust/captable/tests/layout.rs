@@ -2,7 +2,8 @@
 //! here a second time, and the header's assertions are read and compared. So are the sizes that it defines.
 
 use captable::raw::{Capability, Finding, Outcome, Record, Relation, Shown, Table};
-use captable::{IMAGE_BYTES, IMPORT_BYTES, MAX_ENTRIES, MAX_LINKS, MAX_PAIRS, REQUEST_BYTES};
+use captable::{IMAGE_BYTES, IMPORT_BYTES, MAX_ENTRIES, MAX_LINKS, MAX_PAIRS, NO_MAKER};
+use captable::{NO_REPLY, OLDER_IMAGE_BYTES, REQUEST_BYTES};
 use std::mem::{align_of, offset_of, size_of};
 
 #[test]
@@ -13,6 +14,7 @@ fn sizes_and_offsets() {
     assert_eq!(size_of::<Record>(), 16);
     assert_eq!(offset_of!(Record, status), 0);
     assert_eq!(offset_of!(Record, kind), 1);
+    assert_eq!(offset_of!(Record, maker), 2);
     assert_eq!(offset_of!(Record, word), 4);
     assert_eq!(offset_of!(Record, stock), 8);
     assert_eq!(size_of::<Table>(), 2048);
@@ -57,6 +59,7 @@ fn the_header_asserts_the_same() {
         ("rights", offset_of!(Capability, rights)),
         ("record", size_of::<Record>()),
         ("kind", offset_of!(Record, kind)),
+        ("maker", offset_of!(Record, maker)),
         ("word", offset_of!(Record, word)),
         ("stock", offset_of!(Record, stock)),
         ("table", size_of::<Table>()),
@@ -83,6 +86,7 @@ fn the_header_defines_the_same_sizes() {
         ("OBJECTS", usize::from(captable::OBJECTS)),
         ("SLOTS", usize::from(captable::SLOTS)),
         ("IMAGE_BYTES", IMAGE_BYTES),
+        ("OLDER_IMAGE_BYTES", OLDER_IMAGE_BYTES),
         ("IMPORT_BYTES", IMPORT_BYTES),
         ("REQUEST_BYTES", REQUEST_BYTES),
         ("PAIRS", MAX_PAIRS),
@@ -90,6 +94,15 @@ fn the_header_defines_the_same_sizes() {
         ("LINKS", MAX_LINKS),
     ] {
         let defined = format!("\n#define CAPTABLE_{name} {here} ");
+        assert!(header.contains(&defined), "{name}");
+    }
+}
+
+#[test]
+fn the_header_defines_the_same_values_for_none() {
+    let header = include_str!("../../../include/captable.h");
+    for (name, here) in [("NO_REPLY", NO_REPLY), ("NO_MAKER", NO_MAKER)] {
+        let defined = format!("\n#define CAPTABLE_{name} {here}\n");
         assert!(header.contains(&defined), "{name}");
     }
 }

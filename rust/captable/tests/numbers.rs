@@ -1,7 +1,7 @@
 //! README's table of numbers and the header say of every cause the number and the word that it has here.
 
 use captable::{AccessRefusal, ChainRefusal, ImportRefusal, ReadRefusal};
-use captable::{StepRefusal, TestRefusal, WriteRefusal};
+use captable::{StepRefusal, TestRefusal, WriteOlderRefusal, WriteRefusal};
 use std::fmt::{Debug, Display};
 
 /// A number, and the name of its cause.
@@ -50,6 +50,8 @@ fn causes(named_17: &str) -> Vec<Named> {
             .map(|cause| named(cause.number(), cause)),
     );
     all.extend(IMPORT.map(|cause| named(cause.number(), cause)));
+    let recorded = WriteOlderRefusal::MakerRecorded;
+    all.push(named(recorded.number(), recorded));
     all
 }
 
@@ -130,6 +132,19 @@ fn an_unsound_table_is_1_everywhere() {
     assert_eq!(ChainRefusal::TableUnsound.number(), 1);
     assert_eq!(ReadRefusal::TableUnsound.number(), 1);
     assert_eq!(WriteRefusal::TableUnsound.number(), 1);
+    assert_eq!(WriteOlderRefusal::TableUnsound.number(), 1);
+}
+
+/// Both forms of an image are refused by the same number, name and words where they are refused for the same.
+#[test]
+fn the_older_form_is_refused_as_the_other_is() {
+    for (whole, older) in [
+        (WriteRefusal::TableUnsound, WriteOlderRefusal::TableUnsound),
+        (WriteRefusal::BufferShort, WriteOlderRefusal::BufferShort),
+    ] {
+        assert_eq!(named(whole.number(), whole), named(older.number(), older));
+        assert_eq!(whole.to_string(), older.to_string());
+    }
 }
 
 /// Who asks for a chain gets the test's refusals by the same number, name and words.
@@ -177,4 +192,6 @@ fn the_header_gives_the_same_reasons_for_tests_and_from_18_on() {
     for refusal in IMPORT {
         same(refusal.number(), &refusal, &refusal);
     }
+    let recorded = WriteOlderRefusal::MakerRecorded;
+    same(recorded.number(), &recorded, &recorded);
 }

@@ -6,7 +6,8 @@ mod common;
 
 use captable::raw::{
     captable_chain, captable_confine, captable_import, captable_read, captable_step,
-    captable_step_by_value, captable_test, captable_write, Finding, Outcome, Shown,
+    captable_step_by_value, captable_test, captable_write, captable_write_older, Finding, Outcome,
+    Shown,
 };
 use captable::{Table, ACTIVE, ALIVE, WK, WR};
 use common::{cap, k, set, step_in_both_forms};
@@ -48,6 +49,7 @@ fn no_bytes_may_come_with_a_null_pointer() {
             (20, *Table::unborn().as_raw())
         );
         assert_eq!(captable_write(*k().as_raw(), null_mut(), 0), 16);
+        assert_eq!(captable_write_older(*k().as_raw(), null_mut(), 0), 16);
         assert_eq!(captable_confine(null(), 0, &mut printed), 11);
     }
     assert_eq!(table, k());
@@ -79,7 +81,7 @@ fn no_list_at_all_is_enough_for_wk() {
 
 #[test]
 fn example_1_is_printed() {
-    let mut input = k().to_image().expect("K is sound").to_vec();
+    let mut input = k().to_older_image().expect("K is sound").to_vec();
     input.extend(set(&[5]).bits().to_be_bytes());
     input.extend([1, 1, WR]);
     let mut printed = [0xaa; 256];

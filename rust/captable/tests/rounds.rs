@@ -149,7 +149,7 @@ fn no_round_goes_through_a_member() {
 /// "`confine` prints as before": the bound alone.
 #[test]
 fn confine_prints_no_rounds() {
-    let mut input = k().to_image().expect("K is sound").to_vec();
+    let mut input = k().to_older_image().expect("K is sound").to_vec();
     input.extend(set(&[5]).bits().to_be_bytes());
     input.extend([1, 1, WR]);
     assert_eq!(confine(&input).as_bytes(), b"accepted\n0\n1\n2\n");

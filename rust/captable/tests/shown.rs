@@ -2,7 +2,8 @@
 
 mod common;
 
-use captable::{confine, version, Capability, Table, CONFINE_BYTES, DEAD, VERSION, WK, WR};
+use captable::{confine, version, Capability, Record, Table};
+use captable::{CONFINE_BYTES, DEAD, VERSION, WK, WR};
 use common::{cap, k, set};
 
 #[test]
@@ -12,11 +13,12 @@ fn a_table_shows_born_records_and_filled_slots_alone() {
     *table.record_mut(6) = *k().record(6);
     table.record_mut(6).word = 7;
     table.record_mut(9).status = DEAD;
+    table.record_mut(9).maker = 6;
     *table.slot_mut(6, 3) = cap(9, WR | WK);
     table.record_mut(6).stock = set(&[10, 63]);
     assert_eq!(
         format!("{table:?}"),
-        "Table {6: alive passive, word 7, stock {10, 63}, slot 3 (9, wr+wk), 9: dead passive}"
+        "Table {6: alive passive, word 7, stock {10, 63}, slot 3 (9, wr+wk), 9: dead passive, made by 6}"
     );
 }
 
@@ -48,11 +50,14 @@ fn what_makes_a_table_unsound_is_shown() {
     table.record_mut(22).status = 3;
     table.record_mut(23).kind = 2;
     *table.slot_mut(24, 7) = cap(5, 0);
+    table.record_mut(25).maker = 0;
+    table.record_mut(26).maker = 65;
     assert!(!table.is_sound());
     assert_eq!(
         format!("{table:?}"),
         "Table {20: unborn passive, word 1, 21: unborn passive, slot 0 (0, 16), 22: status 3 passive, \
-         23: unborn kind 2, 24: unborn passive, slot 7 (5, 0)}"
+         23: unborn kind 2, 24: unborn passive, slot 7 (5, 0), 25: unborn passive, made by 0, \
+         26: unborn passive, made by 65}"
     );
     assert_eq!(Capability::EMPTY.to_string(), "empty");
     assert_eq!(cap(1, 15).to_string(), "(1, rd+wr+wk+tx)");
@@ -62,6 +67,7 @@ fn what_makes_a_table_unsound_is_shown() {
 fn a_default_table_is_unborn_and_sound() {
     static FIRST: Table = Table::unborn();
     assert_eq!(Table::default(), FIRST);
+    assert_eq!(Record::default(), *FIRST.record(63));
     assert!(FIRST.is_sound());
 }
 
@@ -77,7 +83,7 @@ fn the_linked_version_is_the_packages() {
 
 #[test]
 fn what_confine_prints() {
-    let mut input = k().to_image().expect("K is sound").to_vec();
+    let mut input = k().to_older_image().expect("K is sound").to_vec();
     input.extend([0, 0, 0, 0, 0, 0, 0, 32, 1, 1, WR]);
     let printed = confine(&input);
     assert_eq!(printed.as_bytes(), b"accepted\n0\n1\n2\n"); // example 1

@@ -21,7 +21,7 @@ fn five_holds(held: Capability) -> Table {
 
 /// What the program `confine` prints for members {5}.
 fn printed(table: &Table, list: &[Capability]) -> String {
-    let mut input = table.to_image().expect("a sound table").to_vec();
+    let mut input = table.to_older_image().expect("a sound table").to_vec();
     input.extend(set(&[5]).bits().to_be_bytes());
     input.push(list.len() as u8);
     for entry in list {

@@ -13,10 +13,14 @@ Usage: yavrinks confine [FILE]
 
 Which objects can a subsystem ever influence, if its members hold no more over
 others than a list says, wk alone not counted? Reads from FILE, or from standard
-input: an image of 1,923 bytes, the members (8 bytes, bit n for object n, the most
-significant byte first), a count byte, and 2 bytes (target, rights) for each entry
-of the list. Prints `accepted` and then those objects, one number a line; or
-`refused N`.
+input: an image of version 1, which has 1,923 bytes, the members (8 bytes, bit n for
+object n, the most significant byte first), a count byte, and 2 bytes (target,
+rights) for each entry of the list. Prints `accepted` and then those objects, one
+number a line; or `refused N`.
+
+An image of another version is refused: `refused 15` at any version byte but 1, once
+the input has its right length. Version 2 is longer, so that an input with such an
+image is most often `refused 17`.
 
 What a member holds over an object outside with wk alone (rights 4) needs no entry.
 All else that it holds outside needs every right listed, wk too where it is beside

@@ -3,6 +3,7 @@ use mathlib.Core.Path.{_≡_, _∙_, ap}
 use mathlib.Core.List.{List}
 use Prim.Native.Nat.{ℕ}
 use Rattle.table.specs.declared.Table.{Table}
+use Rattle.image.specs.declared.Version.the-variants.{Two}
 use Rattle.image_out.specs.Written.{writeNumber, writtenOf}
 use borrow.Author.Needs.{needs}
 use Rattle.captable.proofs.captable_write.Statement.{statement}
@@ -18,7 +19,7 @@ same-length : tie.Need-same-length
 same-length c = search needs
 
 -- what is left of the buffer, stated by itself: a promise of anything else is then refused without a search through the definitions
-left : (t : Table) (exit entry : List ℕ) → exit ≡ writtenOf t entry → exit ≡ writtenOf t entry
+left : (t : Table) (exit entry : List ℕ) → exit ≡ writtenOf Two t entry → exit ≡ writtenOf Two t entry
 left t exit entry e = e
 
 returns : tie.Need-returns

@@ -1,4 +1,4 @@
--- `image::writing::write_records` meets its contract. The outer loop's invariant, `writtenTo`: behind the first three bytes stand
+-- `write_records` meets its contract. The outer loop's invariant, `writtenTo`: behind the first three bytes stand
 -- the first `n` records, and the rest is as it was. The inner loop's: the first `j` slots are object `n`'s. Assumes nothing.
 use mathlib.Core.Path.{_≡_, refl, _∙_}
 use Prim.Native.Nat.{_≤_, _-_}
@@ -7,32 +7,35 @@ use lib.ListN.{length, take, length-set, length-take, length-drop}
 use Rattle.table.specs.Lists.{tabulate}
 use Rattle.table.specs.Cells.{slotAt}
 use Rattle.octets.proofs.Lists.{filled-none, filled-more, filled-all}
-use Rattle.image.specs.Layout.{one}
+use Rattle.image.proofs.Places.{part-ends, part-small}
 use Rattle.image_out.proofs.Store.{stored-taken, writtenTo, records-none, records-more, records-all}
 use borrow.Author.Needs.{needs}
 use Rattle.image_out.proofs.write_records.Statement.{statement}
 use Rattle.image_out.proofs.write_records.Tie as tie
 
 abbrev Inv-slots : tie.InvT-slots
-Inv-slots buffer t nothing n place object slots₀ j₀ slots j = (j ≤ 8) × (length slots ≡ 8) × (take j slots ≡ tabulate j (slotAt t n))
+Inv-slots buffer v t nothing long n place object slots₀ j₀ slots j = (j ≤ 8) × (length slots ≡ 8) × (take j slots ≡ tabulate j (slotAt t n))
 
 abbrev μ-slots : tie.MeasureT-slots
-μ-slots buffer t nothing n place object slots₀ j₀ slots j = 8 - j
+μ-slots buffer v t nothing long n place object slots₀ j₀ slots j = 8 - j
 
 abbrev Inv-records : tie.InvT-records
-Inv-records buffer₀ t nothing n₀ buffer n = (n ≤ 64) × (length buffer ≡ length buffer₀) × (buffer ≡ writtenTo one t buffer₀ n)
+Inv-records buffer₀ v t nothing long n₀ buffer n = (n ≤ 64) × (length buffer ≡ length buffer₀) × (buffer ≡ writtenTo v t buffer₀ n)
 
 abbrev μ-records : tie.MeasureT-records
-μ-records buffer₀ t nothing n₀ buffer n = 64 - n
+μ-records buffer₀ v t nothing long n₀ buffer n = 64 - n
+
+record-length-requires : tie.Need-record-length-requires Inv-slots μ-slots Inv-records μ-records
+record-length-requires c κs = search needs
 
 records-holds : tie.Need-records-holds Inv-slots μ-slots Inv-records μ-records
-records-holds c = (omega arith, refl, records-none one (c .before .args .t2) (c .before .args .buffer .now))
+records-holds c = (omega arith, refl, records-none (c .before .before .args .v) (c .before .before .args .t2) (c .before .before .args .buffer .now))
 
 mul-place : tie.Need-mul-place Inv-slots μ-slots Inv-records μ-records
-mul-place c = search needs
+mul-place c = omega (arith, part-small (c .before .before .before .before .args .v) (c .before .records .n) (c .before .before .record-length .result) (omega arith) (c .before .before .record-length .ensures))
 
 add-place : tie.Need-add-place Inv-slots μ-slots Inv-records μ-records
-add-place c = search needs
+add-place c = omega (arith, part-small (c .before .before .before .before .args .v) (c .before .records .n) (c .before .before .record-length .result) (omega arith) (c .before .before .record-length .ensures))
 
 mul-object : tie.Need-mul-object Inv-slots μ-slots Inv-records μ-records
 mul-object c = search needs
@@ -41,7 +44,7 @@ element-copy-out-object : tie.Need-element-copy-out-object Inv-slots μ-slots In
 element-copy-out-object c = search needs
 
 slots-holds : tie.Need-slots-holds Inv-slots μ-slots Inv-records μ-records
-slots-holds c = (omega arith, refl, filled-none (slotAt (c .before .before .before .before .args .t2) (c .before .before .records .n)))
+slots-holds c = (omega arith, refl, filled-none (slotAt (c .before .before .before .before .before .args .t2) (c .before .before .records .n)))
 
 mul-slots : tie.Need-mul-slots Inv-slots μ-slots Inv-records μ-records
 mul-slots c = search needs
@@ -71,11 +74,11 @@ slots-again : tie.Need-slots-again Inv-slots μ-slots Inv-records μ-records
 slots-again c = let l = c .before .before .slots in (
   omega arith,
   simp length-set (l .inv .1),
-  filled-more (l .j) (slotAt (c .before .before .before .before .before .before .before .args .t2) (c .before .before .before .before .before .records .n)) (l .slots) _ (omega arith) (l .inv .2) refl,
+  filled-more (l .j) (slotAt (c .before .before .before .before .before .before .before .before .args .t2) (c .before .before .before .before .before .records .n)) (l .slots) _ (omega arith) (l .inv .2) refl,
 )
 
 add-write-record : tie.Need-add-write-record Inv-slots μ-slots Inv-records μ-records
-add-write-record c = search needs
+add-write-record c = omega (arith, part-small (c .before .before .before .before .before .before .before .args .v) (c .before .before .before .before .records .n) (c .before .before .before .before .before .record-length .result) (omega arith) (c .before .before .before .before .before .record-length .ensures))
 
 sub-write-record : tie.Need-sub-write-record Inv-slots μ-slots Inv-records μ-records
 sub-write-record c = search needs
@@ -84,10 +87,10 @@ part-write-record-start : tie.Need-part-write-record-start Inv-slots μ-slots In
 part-write-record-start c = search needs
 
 part-write-record-end : tie.Need-part-write-record-end Inv-slots μ-slots Inv-records μ-records
-part-write-record-end c = search needs
+part-write-record-end c = omega (arith, part-ends (c .before .before .before .before .before .before .before .args .v) (c .before .before .before .before .records .n) (c .before .before .before .before .before .record-length .result) (omega arith) (c .before .before .before .before .before .record-length .ensures), c .before .before .before .before .before .before .before .pre, c .before .before .before .before .records .inv .1)
 
 write-record-requires : tie.Need-write-record-requires Inv-slots μ-slots Inv-records μ-records
-write-record-requires c κs = simp (length-take, length-drop) (omega arith)
+write-record-requires c κs = simp (length-take, length-drop) (omega (arith, part-ends (c .before .before .before .before .before .before .before .before .args .v) (c .before .before .before .before .before .records .n) (c .before .before .before .before .before .before .record-length .result) (omega arith) (c .before .before .before .before .before .before .record-length .ensures), c .before .before .before .before .before .before .before .before .pre, c .before .before .before .before .before .records .inv .1, c .before .before .before .before .before .before .record-length .ensures))
 
 add-n : tie.Need-add-n Inv-slots μ-slots Inv-records μ-records
 add-n c = search needs
@@ -98,18 +101,18 @@ records-less c = search needs
 records-again : tie.Need-records-again Inv-slots μ-slots Inv-records μ-records
 records-again c = let l = c .before .before .before .before .before .before .before .before .records in
     let s = c .before .before .before .before .before .slots in
-    let a = c .before .before .before .before .before .before .before .before .before .before .args in
+    let a = c .before .before .before .before .before .before .before .before .before .before .before .args in
     let e = filled-all (s .j) 8 (slotAt (a .t2) (l .n)) (s .slots) (s .inv .1) (omega arith) (s .inv .2) in (
       omega arith,
       c .before .buffer .given .1 ∙ l .inv .1,
-      records-more one (a .t2) (a .buffer .now) (l .n) (l .buffer) _ _ (omega arith) (l .inv .2) (stored-taken (a .t2) (l .n) (s .slots) e) (c .before .before .write-record .ensures),
+      records-more (a .v) (a .t2) (a .buffer .now) (l .n) (c .before .before .before .before .before .before .before .before .before .record-length .result) (l .buffer) _ _ (c .before .before .before .before .before .before .before .before .before .record-length .ensures) (omega (arith, c .before .before .before .before .before .before .before .before .before .before .before .pre)) (l .inv .2) (stored-taken (a .t2) (l .n) (s .slots) e) (c .before .before .write-record .ensures),
     )
 
 same-length : tie.Need-same-length Inv-slots μ-slots Inv-records μ-records
 same-length c = c .before .records .inv .1
 
 returns : tie.Need-returns Inv-slots μ-slots Inv-records μ-records
-returns c = let l = c .before .records in records-all one (c .before .before .before .args .t2) (c .before .before .before .args .buffer .now) (l .n) (l .buffer) (omega arith) (l .inv .2)
+returns c = let l = c .before .records in records-all (c .before .before .before .before .args .v) (c .before .before .before .before .args .t2) (c .before .before .before .before .args .buffer .now) (l .n) (l .buffer) (omega arith) (l .inv .2)
 
 pub write-records-spec : {M : Type 1} → statement M
 write-records-spec =
@@ -119,6 +122,7 @@ write-records-spec =
     μ-slots
     Inv-records
     μ-records
+    record-length-requires
     records-holds
     mul-place
     add-place

@@ -122,6 +122,18 @@ record-sound-requires :
     μ-scan
 record-sound-requires c κs = search needs
 
+maker-sound-requires :
+    tie.Need-maker-sound-requires
+    Inv-born
+    μ-born
+    Inv-glance
+    μ-glance
+    Inv-slots
+    μ-slots
+    Inv-scan
+    μ-scan
+maker-sound-requires c κs = search needs
+
 disjoint-requires :
     tie.Need-disjoint-requires
     Inv-born
@@ -140,7 +152,7 @@ union-requires c κs = search needs
 
 glance-holds :
     tie.Need-glance-holds Inv-born μ-born Inv-glance μ-glance Inv-slots μ-slots Inv-scan μ-scan
-glance-holds c = (omega arith, over-none (c .before .before .before .before .before .before .before .before .before .args .t1) (c .before .before .before .before .before .before .scan .n))
+glance-holds c = (omega arith, over-none (c .before .before .before .before .before .before .before .before .before .before .args .t1) (c .before .before .before .before .before .before .before .scan .n))
 
 mul-note : tie.Need-mul-note Inv-born μ-born Inv-glance μ-glance Inv-slots μ-slots Inv-scan μ-scan
 mul-note c = search needs
@@ -201,7 +213,7 @@ glance-less c = search needs
 
 glance-again :
     tie.Need-glance-again Inv-born μ-born Inv-glance μ-glance Inv-slots μ-slots Inv-scan μ-scan
-glance-again c = (omega arith, over-more (c .before .before .before .before .before .before .before .before .before .before .before .before .args .t1) (c .before .before .before .before .before .before .before .before .before .scan .n) (c .before .before .glance .k) _ _ (c .before .before .glance .inv .1) (c .note .ensures))
+glance-again c = (omega arith, over-more (c .before .before .before .before .before .before .before .before .before .before .before .before .before .args .t1) (c .before .before .before .before .before .before .before .before .before .before .scan .n) (c .before .before .glance .k) _ _ (c .before .before .glance .inv .1) (c .note .ensures))
 
 clear-requires :
     tie.Need-clear-requires Inv-born μ-born Inv-glance μ-glance Inv-slots μ-slots Inv-scan μ-scan
@@ -209,12 +221,12 @@ clear-requires c κs = search needs
 
 slots-holds :
     tie.Need-slots-holds Inv-born μ-born Inv-glance μ-glance Inv-slots μ-slots Inv-scan μ-scan
-slots-holds c = let t = c .before .before .before .before .before .before .before .before .before .before .before .before .before .args .t1 in
-    let n = c .before .before .before .before .before .before .before .before .before .before .scan .n in (
+slots-holds c = let t = c .before .before .before .before .before .before .before .before .before .before .before .before .before .before .args .t1 in
+    let n = c .before .before .before .before .before .before .before .before .before .before .before .scan .n in (
       ⊎-elim (λ w. omega arith) (λ w. omega arith) (c .if3 .came),
-      c .before .before .before .before .before .before .before .before .before .before .scan .inv .1,
+      c .before .before .before .before .before .before .before .before .before .before .before .scan .inv .1,
       ⊎-elim
-          (λ w. subst⁻¹ (λ (j : ℕ). allBelow j (slotSound t n) ≡ true) (w .1) (cleared t n (c .before .before .before .glance .k) _ (c .before .before .before .glance .g) _ (records-long t _ (c .before .before .before .before .before .before .before .before .before .before .before .before .before .good .0)) (c .before .before .before .before .before .before .before .before .before .before .before .before .born .inv .1 ∙ born-all _ _ (c .before .before .before .before .before .before .before .before .before .before .before .born-test .left)) (c .before .before .glance-test .left) (c .before .before .before .glance .inv .1) (c .before .clear .ensures) (w .0 .taken)))
+          (λ w. subst⁻¹ (λ (j : ℕ). allBelow j (slotSound t n) ≡ true) (w .1) (cleared t n (c .before .before .before .glance .k) _ (c .before .before .before .glance .g) _ (records-long t _ (c .before .before .before .before .before .before .before .before .before .before .before .before .before .before .good .0)) (c .before .before .before .before .before .before .before .before .before .before .before .before .before .born .inv .1 ∙ born-all _ _ (c .before .before .before .before .before .before .before .before .before .before .before .before .born-test .left)) (c .before .before .glance-test .left) (c .before .before .before .glance .inv .1) (c .before .clear .ensures) (w .0 .taken)))
           (λ w. subst⁻¹ (λ (j : ℕ). allBelow j (slotSound t n) ≡ true) (w .1) (all-none _))
           (c .if3 .came),
     )
@@ -265,13 +277,13 @@ slots-less c = search needs
 
 slots-again :
     tie.Need-slots-again Inv-born μ-born Inv-glance μ-glance Inv-slots μ-slots Inv-scan μ-scan
-slots-again c = let t = c .before .before .before .before .before .before .before .before .before .before .before .before .before .before .before .before .before .before .before .before .args .t1 in
-    let n = c .before .before .before .before .before .before .before .before .before .before .before .before .before .before .before .before .before .scan .n in
+slots-again c = let t = c .before .before .before .before .before .before .before .before .before .before .before .before .before .before .before .before .before .before .before .before .before .args .t1 in
+    let n = c .before .before .before .before .before .before .before .before .before .before .before .before .before .before .before .before .before .before .scan .n in
     let j = c .before .before .before .before .before .before .slots .j in (
       omega arith,
       c .before .before .before .before .before .before .slots .inv .1,
       all-more j (slotSound t n) (c .before .before .before .before .before .before .slots .inv .2)
-          (sym (slot-is t n j _ _ _ (records-long t _ (c .before .before .before .before .before .before .before .before .before .before .before .before .before .before .before .before .before .before .before .before .good .0)) (c .before .before .before .before .before .before .before .before .before .before .before .before .before .before .before .before .before .before .before .born .inv .1 ∙ born-all _ _ (c .before .before .before .before .before .before .before .before .before .before .before .before .before .before .before .before .before .before .born-test .left)) (c .before .before .has .ensures) (c .before .slot-sound .ensures)) ∙ not-false _ (c .if4 .left)),
+          (sym (slot-is t (records-long t _ (c .before .before .before .before .before .before .before .before .before .before .before .before .before .before .before .before .before .before .before .before .before .good .0)) n j _ _ _ (c .before .before .before .before .before .before .before .before .before .before .before .before .before .before .before .before .before .before .before .before .born .inv .1 ∙ born-all _ _ (c .before .before .before .before .before .before .before .before .before .before .before .before .before .before .before .before .before .before .before .born-test .left)) (c .before .before .has .ensures) (c .before .slot-sound .ensures)) ∙ not-false _ (c .if4 .left)),
     )
 
 add-n : tie.Need-add-n Inv-born μ-born Inv-glance μ-glance Inv-slots μ-slots Inv-scan μ-scan
@@ -283,13 +295,13 @@ scan-less c = search needs
 
 scan-again :
     tie.Need-scan-again Inv-born μ-born Inv-glance μ-glance Inv-slots μ-slots Inv-scan μ-scan
-scan-again c = let t = c .before .before .before .before .before .before .before .before .before .before .before .before .before .before .before .args .t1 in
-    let n = c .before .before .before .before .before .before .before .before .before .before .before .before .scan .n in (
+scan-again c = let t = c .before .before .before .before .before .before .before .before .before .before .before .before .before .before .before .before .args .t1 in
+    let n = c .before .before .before .before .before .before .before .before .before .before .before .before .before .scan .n in (
       omega arith,
       c .before .slots .inv .1,
-      c .before .before .before .before .before .before .union .ensures ∙ ap (λ (x : ℕ). unionOf x (stockAt t n)) (c .before .before .before .before .before .before .before .before .before .before .before .before .scan .inv .2) ∙ taken-more t n,
-      good-more t n (c .before .slots .j) (c .before .before .before .before .before .before .before .before .before .before .before .before .scan .inv .3)
-          (sym (opens-is t n _ _ _ (c .before .before .before .before .before .before .before .before .before .before .before .before .scan .inv .2) (c .before .before .before .before .before .before .before .before .before .record-sound .ensures) (c .before .before .before .before .before .before .before .before .disjoint .ensures)) ∙ not-false _ (c .before .before .before .before .before .before .before .if2 .left))
+      c .before .before .before .before .before .before .union .ensures ∙ ap (λ (x : ℕ). unionOf x (stockAt t n)) (c .before .before .before .before .before .before .before .before .before .before .before .before .before .scan .inv .2) ∙ taken-more t n,
+      good-more t n (c .before .slots .j) (c .before .before .before .before .before .before .before .before .before .before .before .before .before .scan .inv .3)
+          (sym (opens-is t (records-long t _ (c .before .before .before .before .before .before .before .before .before .before .before .before .before .before .before .before .good .0)) n _ _ _ _ _ (c .before .before .before .before .before .before .before .before .before .before .before .before .before .before .before .born .inv .1 ∙ born-all _ _ (c .before .before .before .before .before .before .before .before .before .before .before .before .before .before .born-test .left)) (c .before .before .before .before .before .before .before .before .before .before .before .before .before .scan .inv .2) (c .before .before .before .before .before .before .before .before .before .before .record-sound .ensures) (c .before .before .before .before .before .before .before .before .before .maker-sound .ensures) (c .before .before .before .before .before .before .before .before .disjoint .ensures)) ∙ not-false _ (c .before .before .before .before .before .before .before .if2 .left))
           (c .before .slots .inv .0) (c .slots-test .left) (c .before .slots .inv .2),
     )
 
@@ -298,17 +310,17 @@ returns c = c .before .scan .inv .1 ∙ scanned _ _ (c .before .scan .inv .0) (c
 
 returns-2 :
     tie.Need-returns-2 Inv-born μ-born Inv-glance μ-glance Inv-slots μ-slots Inv-scan μ-scan
-returns-2 c = let t = c .before .before .before .before .before .before .before .before .args .t1 in
-    let n = c .before .before .before .before .before .scan .n in
-    stopped-at-record t n (c .before .before .before .before .scan-test .taken) (sym (opens-is t n _ _ _ (c .before .before .before .before .before .scan .inv .2) (c .before .before .record-sound .ensures) (c .before .disjoint .ensures)) ∙ not-true _ (c .if2 .taken))
+returns-2 c = let t = c .before .before .before .before .before .before .before .before .before .args .t1 in
+    let n = c .before .before .before .before .before .before .scan .n in
+    stopped-at-record t n (c .before .before .before .before .before .scan-test .taken) (sym (opens-is t (records-long t _ (c .before .before .before .before .before .before .before .before .before .good .0)) n _ _ _ _ _ (c .before .before .before .before .before .before .before .before .born .inv .1 ∙ born-all _ _ (c .before .before .before .before .before .before .before .born-test .left)) (c .before .before .before .before .before .before .scan .inv .2) (c .before .before .before .record-sound .ensures) (c .before .before .maker-sound .ensures) (c .before .disjoint .ensures)) ∙ not-true _ (c .if2 .taken))
 
 returns-3 :
     tie.Need-returns-3 Inv-born μ-born Inv-glance μ-glance Inv-slots μ-slots Inv-scan μ-scan
-returns-3 c = let t = c .before .before .before .before .before .before .before .before .before .before .before .before .before .before .before .before .before .before .before .before .args .t1 in
-    let n = c .before .before .before .before .before .before .before .before .before .before .before .before .before .before .before .before .before .scan .n in
+returns-3 c = let t = c .before .before .before .before .before .before .before .before .before .before .before .before .before .before .before .before .before .before .before .before .before .args .t1 in
+    let n = c .before .before .before .before .before .before .before .before .before .before .before .before .before .before .before .before .before .before .scan .n in
     let j = c .before .before .before .before .before .before .slots .j in
-    stopped-at-slot t n j (c .before .before .before .before .before .before .before .before .before .before .before .before .before .before .before .before .scan-test .taken) (c .before .before .before .before .before .slots-test .taken)
-    (sym (slot-is t n j _ _ _ (records-long t _ (c .before .before .before .before .before .before .before .before .before .before .before .before .before .before .before .before .before .before .before .before .good .0)) (c .before .before .before .before .before .before .before .before .before .before .before .before .before .before .before .before .before .before .before .born .inv .1 ∙ born-all _ _ (c .before .before .before .before .before .before .before .before .before .before .before .before .before .before .before .before .before .before .born-test .left)) (c .before .before .has .ensures) (c .before .slot-sound .ensures)) ∙ not-true _ (c .if4 .taken))
+    stopped-at-slot t n j (c .before .before .before .before .before .before .before .before .before .before .before .before .before .before .before .before .before .scan-test .taken) (c .before .before .before .before .before .slots-test .taken)
+    (sym (slot-is t (records-long t _ (c .before .before .before .before .before .before .before .before .before .before .before .before .before .before .before .before .before .before .before .before .before .good .0)) n j _ _ _ (c .before .before .before .before .before .before .before .before .before .before .before .before .before .before .before .before .before .before .before .before .born .inv .1 ∙ born-all _ _ (c .before .before .before .before .before .before .before .before .before .before .before .before .before .before .before .before .before .before .before .born-test .left)) (c .before .before .has .ensures) (c .before .slot-sound .ensures)) ∙ not-true _ (c .if4 .taken))
 
 pub is-sound-spec : {M : Type 1} → statement M
 is-sound-spec =
@@ -335,6 +347,7 @@ is-sound-spec =
     mul-r
     element-copy-out-r
     record-sound-requires
+    maker-sound-requires
     disjoint-requires
     union-requires
     glance-holds

@@ -10,7 +10,8 @@ use std::process::ExitCode;
 
 use yavrinks_tools::progress::Progress;
 
-use crate::samples::{imports, keeping, material_test, places, requests, rows, Place};
+use crate::samples::{imports, keeping, made_table, material_test};
+use crate::samples::{places, requests, rows, Place};
 use measure::{Figures, ROUNDS};
 
 /// The most that a lent step should take, in scans.
@@ -25,7 +26,8 @@ Requests whose copies come out empty, and a fetch that is weakened to what is th
 they were.
 A chain is that to the object farthest off. With 64 wk unlisted, eight members hold wk alone in all their
 slots and the list is empty. With 64 objects in a row the test takes 63 rounds. A full import has 64 entities
-of eight capabilities, a small one three.
+of eight capabilities, a small one three. An image is of version 2, an older image of version 1; with every
+object made, each record of the filled table has a maker.
 ";
 
 /// How many calls are timed.
@@ -37,7 +39,8 @@ fn calls(places: &[Place]) -> usize {
     // On rows the test and the chain; the chain against the test on all of them.
     let on_rows = 2 * rows().len();
     let against_test = places.len() + rows().len();
-    let wholes = places.len() * wholes::ALL.len() + 1 + on_rows + imports().len();
+    let wholes = places.len() * wholes::ALL.len() + wholes::WITH_MAKERS.len();
+    let wholes = wholes + 1 + on_rows + imports().len();
     3 * (each + keeping().len()) + wholes + against_test
 }
 
@@ -62,6 +65,11 @@ pub fn command() -> ExitCode {
         for (name, figures) in wholes::ALL {
             timing.on(place, name, || figures(place));
         }
+    }
+    let made = made_table();
+    for (name, figures) in wholes::WITH_MAKERS {
+        let name = format!("{name}, every object made");
+        timing.line(&name, || figures(&made));
     }
     keeping_steps(&mut timing);
     timing.line("confinement test, 64 wk unlisted", || {

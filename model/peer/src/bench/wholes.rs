@@ -6,7 +6,8 @@ use captable::raw;
 use yavrinks_model::access::potential_access;
 use yavrinks_model::chain::chain as model_chain;
 use yavrinks_model::confinement::confinement_test;
-use yavrinks_model::image::{self, IMAGE_LENGTH};
+use yavrinks_model::image::{self, Version};
+use yavrinks_model::table::Table;
 use yavrinks_model::take_grant;
 use yavrinks_tools::generate::ConfinementCase;
 
@@ -19,24 +20,42 @@ use crate::samples::{farthest, list_bytes, own_test, Place};
 type Take = fn(&Place) -> Figures;
 
 /// Each call by name.
-pub const ALL: [(&str, Take); 7] = [
+pub const ALL: [(&str, Take); 9] = [
     ("soundness", soundness),
     ("one scan in C -O3", scan),
     ("confinement test", test),
     ("chain", chain),
     ("potential access", access),
-    ("image read", read),
-    ("image write", write),
+    ("image read", |place| read(Version::Two, &place.table)),
+    ("image write", |place| write(Version::Two, &place.table)),
+    ("older image read", |place| read(Version::One, &place.table)),
+    ("older image write", |place| {
+        write(Version::One, &place.table)
+    }),
+];
+
+/// Takes the figures of one call on a table.
+type TakeOf = fn(&Table) -> Figures;
+
+/// The calls that look at makers, for a table that has them.
+pub const WITH_MAKERS: [(&str, TakeOf); 3] = [
+    ("soundness", sound_of),
+    ("image read", |table| read(Version::Two, table)),
+    ("image write", |table| write(Version::Two, table)),
 ];
 
 fn soundness(place: &Place) -> Figures {
-    let mut given = to_raw(&place.table);
+    sound_of(&place.table)
+}
+
+fn sound_of(table: &Table) -> Figures {
+    let mut given = to_raw(table);
     in_turn(
         || {
             black_box(Archive.sound(black_box(&mut given)));
         },
         || {
-            black_box(black_box(&place.table).is_sound());
+            black_box(black_box(table).is_sound());
         },
     )
 }
@@ -150,8 +169,8 @@ fn access(place: &Place) -> Figures {
     )
 }
 
-fn read(place: &Place) -> Figures {
-    let bytes = image::encode(&place.table);
+fn read(version: Version, table: &Table) -> Figures {
+    let bytes = image::encode(version, table);
     let mut given = bytes.clone();
     in_turn(
         || {
@@ -180,18 +199,21 @@ pub fn import(bytes: &[u8]) -> Figures {
     )
 }
 
-fn write(place: &Place) -> Figures {
-    let mut given = to_raw(&place.table);
-    let (mut first, mut second) = ([0; IMAGE_LENGTH], [0; IMAGE_LENGTH]);
+fn write(version: Version, table: &Table) -> Figures {
+    let mut given = to_raw(table);
+    let mut first = vec![0; version.image_length()];
+    let mut second = first.clone();
     in_turn(
         || {
-            black_box(Archive.write(black_box(&mut given), black_box(&mut first)));
+            let (given, buffer) = (black_box(&mut given), black_box(&mut first));
+            black_box(match version {
+                Version::One => Archive.write_older(given, buffer),
+                Version::Two => Archive.write(given, buffer),
+            });
         },
         || {
-            black_box(image::write(
-                black_box(&place.table),
-                black_box(&mut second),
-            ));
+            let buffer = black_box(&mut second);
+            black_box(image::write(version, black_box(table), buffer));
         },
     )
 }

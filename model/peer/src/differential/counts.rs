@@ -1,15 +1,17 @@
-//! How often each call gave each number, how often empty copies were met, how many rounds tests took, and the tables
-//! that are printed of it.
+//! How often each call gave each number, how often empty copies and makers were met, how many rounds tests took, and
+//! the tables that are printed of it.
 
 use std::fmt;
 
+use super::makers::{MakerCounts, MakerKind};
 use super::rounds::RoundCounts;
+use yavrinks_model::image::{Version, VERSION_AT};
 use yavrinks_model::step::{Code, Request};
 use yavrinks_model::table::Table;
 use yavrinks_tools::empty_kinds::{EmptyCounts, EmptyKind};
 
-/// The numbers that calls give are 0 to 22.
-const NUMBERS: usize = 23;
+/// The numbers that calls give are 0 to 23.
+const NUMBERS: usize = 24;
 
 /// The lines of the summary, in order.
 #[derive(Clone, Copy, Debug, PartialEq, Eq)]
@@ -21,14 +23,16 @@ pub enum Line {
     Access,
     Test,
     Chain,
-    Write,
-    Read,
+    Write(Version),
+    Read(Version),
+    /// Bytes that have no version byte, or one of no version.
+    ReadOther,
     Import,
     Confine,
 }
 
 /// How many lines there are.
-const LINES: usize = 18;
+const LINES: usize = 21;
 
 /// The names of the lines, in order of their place.
 fn names() -> Vec<String> {
@@ -39,8 +43,11 @@ fn names() -> Vec<String> {
         "potential access",
         "confinement test",
         "chain to an object",
-        "image written, read back",
-        "image read",
+        "version 1 written, read",
+        "version 2 written, read",
+        "version 1 read",
+        "version 2 read",
+        "other bytes read",
         "import",
         "confine",
     ];
@@ -61,11 +68,18 @@ impl Line {
             Line::Access => 11,
             Line::Test => 12,
             Line::Chain => 13,
-            Line::Write => 14,
-            Line::Read => 15,
-            Line::Import => 16,
-            Line::Confine => 17,
+            Line::Write(version) => 13 + usize::from(version.number()),
+            Line::Read(version) => 15 + usize::from(version.number()),
+            Line::ReadOther => 18,
+            Line::Import => 19,
+            Line::Confine => 20,
         }
+    }
+
+    /// The line of bytes that are read as an image.
+    pub fn of_image(image: &[u8]) -> Line {
+        let version = image.get(VERSION_AT).and_then(|&byte| Version::of(byte));
+        version.map_or(Line::ReadOther, Line::Read)
     }
 }
 
@@ -73,17 +87,18 @@ impl Line {
 const TESTS: [Line; 3] = [Line::Test, Line::Chain, Line::Confine];
 
 /// How often each line had each number: in all, and of tests those where a member holds wk alone that the
-/// list lacks. How often each kind of empty copies came, and each number of rounds.
+/// list lacks. How often each kind of empty copies and of makers came, and each number of rounds.
 #[derive(Clone, Debug, Default, PartialEq, Eq)]
 pub struct Counts {
     all: [[u64; NUMBERS]; LINES],
     unlisted: [[u64; NUMBERS]; LINES],
     empty: EmptyCounts,
+    makers: MakerCounts,
     rounds: RoundCounts,
 }
 
 impl Counts {
-    /// Counts one answer. No call gives a number above 22.
+    /// Counts one answer. No call gives a number above 23.
     pub fn add(&mut self, line: Line, number: u8) {
         self.all[line.place()][usize::from(number)] += 1;
     }
@@ -93,9 +108,20 @@ impl Counts {
         self.unlisted[line.place()][usize::from(number)] += 1;
     }
 
-    /// Counts the empty copies of a request that was done on the table.
-    pub fn add_empty(&mut self, before: &Table, request: &Request) {
+    /// Counts the empty copies of a request that was done on the table, and what it has to do with makers.
+    pub fn add_done(&mut self, before: &Table, request: &Request) {
         self.empty.count(before, request);
+        self.makers.count_request(before, request);
+    }
+
+    /// Counts the makers in a table.
+    pub fn add_makers(&mut self, table: &Table) {
+        self.makers.count_table(table);
+    }
+
+    /// How often a kind of makers came.
+    pub fn of_maker(&self, kind: MakerKind) -> u64 {
+        self.makers.of(kind)
     }
 
     /// Counts an accepted test by its rounds.
@@ -143,6 +169,7 @@ impl fmt::Display for Counts {
         let names = tests.map(|place| names[place].clone());
         write_part(out, "of these with unlisted wk", &names, &unlisted)?;
         writeln!(out)?;
+        writeln!(out, "{}", self.makers)?;
         write!(out, "{}", self.rounds)
     }
 }

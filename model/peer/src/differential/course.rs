@@ -82,7 +82,7 @@ fn spoil(rng: &mut Rng, table: &mut Table) {
 
 /// Any value in any one field.
 pub fn put_anything(rng: &mut Rng, table: &mut Table) {
-    let (field, place, value) = (rng.between(0, 5), rng.between(0, 7) as usize, rng.bits());
+    let (field, place, value) = (rng.between(0, 6), rng.between(0, 7) as usize, rng.bits());
     let record = table.record_mut(rng.byte(0, 63));
     match field {
         0 => record.status = value as u8 % 5,
@@ -90,6 +90,7 @@ pub fn put_anything(rng: &mut Rng, table: &mut Table) {
         2 => record.word = value as u32,
         3 => record.stock |= 1 << (value % 64),
         4 => record.slots[place].target = value as u8,
+        5 => record.maker = value as u8 % 70,
         _ => record.slots[place].rights = value as u8 % 32,
     }
 }

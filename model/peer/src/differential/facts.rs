@@ -92,7 +92,7 @@ fn write_bytes(out: &mut fmt::Formatter<'_>, bytes: &[u8]) -> fmt::Result {
 
 /// Every record that is not wholly unborn, a line each.
 fn write_table(out: &mut fmt::Formatter<'_>, table: &raw::Table) -> fmt::Result {
-    writeln!(out, " all is zero but")?;
+    writeln!(out, " wholly unborn but for")?;
     for (n, (record, slots)) in table.records.iter().zip(table.slots.chunks(8)).enumerate() {
         let empty = raw::Capability::default();
         if *record == raw::Record::default() && slots.iter().all(|slot| *slot == empty) {
@@ -100,9 +100,10 @@ fn write_table(out: &mut fmt::Formatter<'_>, table: &raw::Table) -> fmt::Result 
         }
         write!(
             out,
-            "    {n}: status {}, kind {}, word {:#x}, stock {:#x}",
+            "    {n}: status {}, kind {}, maker {}, word {:#x}, stock {:#x}",
             record.status,
             record.kind,
+            record.maker,
             record.word,
             record.stock.bits()
         )?;

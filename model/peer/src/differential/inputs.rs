@@ -1,6 +1,7 @@
 //! Images, imports and inputs of `confine`: right ones, aimed ones, and what damage makes of them.
 
-use yavrinks_model::image::{HEAD_LENGTH, IMAGE_LENGTH, RECORD_LENGTH};
+use yavrinks_model::image::{Version, HEAD_LENGTH, VERSION_AT};
+use yavrinks_model::table::NO_MAKER;
 use yavrinks_tools::generate::{confine_input, image_case, import_case};
 use yavrinks_tools::generate::{CONFINE_NUMBERS, IMAGE_NUMBERS, IMPORT_NUMBERS};
 use yavrinks_tools::rng::Rng;
@@ -66,6 +67,9 @@ impl Source {
     }
 }
 
+/// A place in the last record of an image of version 1.
+const LAST_RECORD: usize = Version::One.image_length() - 15;
+
 /// Damage of one kind, to an image or to an input of `confine`.
 fn damage_image(rng: &mut Rng, bytes: &mut Vec<u8>) {
     let length = bytes.len();
@@ -77,9 +81,10 @@ fn damage_image(rng: &mut Rng, bytes: &mut Vec<u8>) {
         }
         40..=44 => put_bytes(rng, bytes, 0, 2, 1),
         45..=49 => put_bytes(rng, bytes, 2, HEAD_LENGTH, 1),
-        50..=59 => put_status_or_kind(rng, bytes),
-        // Members, count and list of an input of `confine`; the last record of an image.
-        60..=79 => put_bytes(rng, bytes, IMAGE_LENGTH - RECORD_LENGTH / 2, length, 1),
+        50..=54 => put_status_or_kind(rng, bytes),
+        55..=59 => put_maker(rng, bytes),
+        // Members, count and list of an input of `confine`; the last records of an image.
+        60..=79 => put_bytes(rng, bytes, LAST_RECORD, length, 1),
         80..=86 => {
             let kept = if rng.percent(50) {
                 1
@@ -159,9 +164,29 @@ fn put_bytes(rng: &mut Rng, bytes: &mut [u8], start: usize, end: usize, count: u
 
 /// Another small value as a record's status or kind.
 fn put_status_or_kind(rng: &mut Rng, bytes: &mut [u8]) {
-    let place = HEAD_LENGTH + RECORD_LENGTH * rng.between(0, 63) as usize;
-    if let Some(byte) = bytes.get_mut(place + rng.between(0, 1) as usize) {
-        *byte = rng.byte(0, 3);
+    let place = rng.between(0, 1) as usize;
+    let value = rng.byte(0, 3);
+    put_in_record(rng, bytes, place, value);
+}
+
+/// Another maker, where the version has one: 64, a number, or one a little above.
+fn put_maker(rng: &mut Rng, bytes: &mut [u8]) {
+    let value = match rng.between(0, 2) {
+        0 => NO_MAKER,
+        _ => rng.byte(0, NO_MAKER + 2),
+    };
+    put_in_record(rng, bytes, Version::One.record_length(), value);
+}
+
+/// Another value in a place of any record, where it has that place and is there.
+fn put_in_record(rng: &mut Rng, bytes: &mut [u8], place: usize, value: u8) {
+    let version = bytes
+        .get(VERSION_AT)
+        .and_then(|&number| Version::of(number));
+    let size = version.unwrap_or(Version::One).record_length();
+    let start = HEAD_LENGTH + size * rng.between(0, 63) as usize;
+    if let Some(byte) = bytes.get_mut(start + place).filter(|_| place < size) {
+        *byte = value;
     }
 }
 
@@ -171,7 +196,8 @@ fn noise(rng: &mut Rng) -> Vec<u8> {
         let length = rng.between(0, 2600) as usize;
         return any_bytes(rng, length);
     }
-    let mut bytes = any_bytes(rng, IMAGE_LENGTH);
-    bytes[..HEAD_LENGTH].copy_from_slice(&[0x07, 0x83, 0x01]);
-    bytes
+    let version = rng.pick(&Version::ALL).unwrap_or(Version::Two);
+    let mut bytes = any_bytes(rng, version.image_length());
+    bytes[VERSION_AT] = version.number();
+    mended(bytes)
 }

@@ -7,6 +7,7 @@ mod course;
 mod draw;
 mod facts;
 mod inputs;
+mod makers;
 mod rounds;
 mod steps;
 mod sweep;
@@ -16,10 +17,11 @@ mod wholes;
 
 pub use counts::{Counts, Line};
 pub use facts::{Compared, Difference};
+pub use makers::MakerKind;
 pub use steps::{compare_step, Ask, Twin};
 pub use wholes::{
     compare_access, compare_chain, compare_confine, compare_import, compare_read, compare_sound,
-    compare_test, compare_write,
+    compare_test, compare_unborn, compare_write,
 };
 
 use std::process::ExitCode;
@@ -45,6 +47,8 @@ empty copies: of the requests that were done those in which a copy came out empt
 counted once in every line that it belongs to
 unlisted wk: a member holds wk alone over a non-member, and the list has no wk for it. Under 0 such
 tests were accepted and such chains shown, under 12 another capability was refused beside it
+makers: of requests that were done; of the tables whose soundness was compared, each born record of a
+sound one, and each record that offends where nothing but makers does
 rounds: of the confinement tests that were accepted, how many rounds added an object; most is the most of any";
 
 /// A difference, and the place in the run where it was met.
@@ -114,7 +118,7 @@ fn one_step(calls: &impl Calls, twin: &mut Twin, ask: &Ask, counts: &mut Counts)
     let number = compare_step(calls, twin, ask)?;
     counts.add(line_of(ask), number);
     if let (0, Some(request)) = (number, &ask.request) {
-        counts.add_empty(&before, request);
+        counts.add_done(&before, request);
     }
     Ok(())
 }
@@ -152,7 +156,7 @@ pub fn compare_inputs(
         };
         let image = images.next(&mut rng);
         counts.add(
-            Line::Read,
+            Line::of_image(&image),
             compare_read(calls, &image).map_err(found("image"))?,
         );
         let import = imports.next(&mut apart);

@@ -1,13 +1,16 @@
-//! All calls but the step, on the table as it is and on tables and imports that are aimed at each number; and
-//! steps of each kind of empty copies.
+//! All calls but the step, on the table as it is and on tables, images and imports that are aimed at each number; and
+//! steps of each kind of empty copies and by and on objects with makers.
 
 use yavrinks_model::confinement::Entry;
+use yavrinks_model::image::{encode, Version, VERSION_AT};
 use yavrinks_model::table::Table;
 use yavrinks_tools::empty_kinds::EmptyKind;
+use yavrinks_tools::generate::{allocate_by_made, destroy_of_made, without_makers, write_case};
 use yavrinks_tools::generate::{born_non_members, confinement_case, damaged_table};
-use yavrinks_tools::generate::{empty_copy_case, import_case, layered_test, shown_case};
-use yavrinks_tools::generate::{ConfinementCase, Damage};
-use yavrinks_tools::generate::{CONFINEMENT_NUMBERS, IMPORT_NUMBERS, SHOWN_NUMBERS};
+use yavrinks_tools::generate::{empty_copy_case, image_of, import_case, layered_test, shown_case};
+use yavrinks_tools::generate::{ConfinementCase, Damage, StepCase};
+use yavrinks_tools::generate::{CONFINEMENT_NUMBERS, IMAGE_NUMBERS, IMPORT_NUMBERS};
+use yavrinks_tools::generate::{SHOWN_NUMBERS, WRITE_NUMBERS};
 use yavrinks_tools::rng::Rng;
 
 use super::counts::{Counts, Line};
@@ -18,8 +21,8 @@ use super::one_step;
 use super::steps::Twin;
 use super::unlisted::{count_test, Test};
 use super::weak::{weak_case, Beside};
-use super::wholes::{compare_access, compare_chain, compare_import, compare_sound};
-use super::wholes::{compare_test, compare_write};
+use super::wholes::{compare_access, compare_chain, compare_import, compare_read, compare_sound};
+use super::wholes::{compare_test, compare_unborn, compare_write};
 use crate::archive::Calls;
 use crate::samples::list_bytes;
 
@@ -34,26 +37,111 @@ pub fn sweep(
     let mut touched = table.clone();
     put_anything(rng, &mut touched);
     for table in [table, &touched, &damaged_table(rng, kind)] {
-        counts.add(Line::Sound, compare_sound(calls, table)?);
+        one_sound(calls, table, counts)?;
     }
+    compare_unborn(calls)?;
     counts.add(Line::Access, compare_access(calls, table)?);
     compare_tests(calls, rng, table, counts)?;
     compare_chains(calls, rng, table, counts)?;
-    let length = match rng.between(0, 9) {
-        0 => rng.between(0, 1922),
-        1 => 1922,
-        2..=5 => 1923,
-        6 => 1924,
-        _ => rng.between(1923, 2500),
-    };
-    let buffer = any_bytes(rng, length as usize);
-    counts.add(Line::Write, compare_write(calls, table, &buffer)?);
     // Generators of their own, since nothing else hangs on what follows.
-    let bits = rng.clone().bits();
+    let bits = rng.bits();
+    compare_makers(calls, &mut Rng::new(bits.rotate_left(16)), counts)?;
+    compare_writes(calls, &mut Rng::new(bits.rotate_left(8)), table, counts)?;
+    compare_reads(calls, &mut Rng::new(bits.rotate_left(24)), table, counts)?;
     compare_imports(calls, &mut Rng::new(bits), counts)?;
     compare_weak(calls, &mut Rng::new(!bits), table, counts)?;
     compare_layered(calls, &mut Rng::new(!bits.rotate_left(32)), counts)?;
     compare_empty(calls, &mut Rng::new(bits.rotate_left(32)), counts)
+}
+
+/// Writing in both versions: of the table as it is, of the same without its makers, and aimed at each number.
+fn compare_writes(
+    calls: &impl Calls,
+    rng: &mut Rng,
+    table: &Table,
+    counts: &mut Counts,
+) -> Compared<()> {
+    for version in Version::ALL {
+        for table in [table, &without_makers(table)] {
+            let length = room(rng, version.image_length() as u64);
+            one_write(calls, rng, version, table, length, counts)?;
+        }
+    }
+    for (version, aim) in WRITE_NUMBERS {
+        let case = write_case(rng, version, aim);
+        one_write(calls, rng, version, &case.table, case.room, counts)?;
+    }
+    Ok(())
+}
+
+fn one_write(
+    calls: &impl Calls,
+    rng: &mut Rng,
+    version: Version,
+    table: &Table,
+    length: usize,
+    counts: &mut Counts,
+) -> Compared<()> {
+    let buffer = any_bytes(rng, length);
+    let number = compare_write(calls, version, table, &buffer)?;
+    counts.add(Line::Write(version), number);
+    Ok(())
+}
+
+/// Reading in both versions: the table as it is, the same under the other version's byte, and aimed at each number.
+fn compare_reads(
+    calls: &impl Calls,
+    rng: &mut Rng,
+    table: &Table,
+    counts: &mut Counts,
+) -> Compared<()> {
+    for version in Version::ALL {
+        let image = encode(version, table);
+        let mut other = image.clone();
+        other[VERSION_AT] ^= 3;
+        let aimed = IMAGE_NUMBERS.map(|aim| image_of(rng, version, aim));
+        for image in [image, other].into_iter().chain(aimed) {
+            counts.add(Line::of_image(&image), compare_read(calls, &image)?);
+        }
+    }
+    Ok(())
+}
+
+/// The length of a buffer for an image of a length: below it, the same, or above it.
+fn room(rng: &mut Rng, length: u64) -> usize {
+    let room = match rng.between(0, 9) {
+        0 => rng.between(0, length - 1),
+        1 => length - 1,
+        2..=5 => length,
+        6 => length + 1,
+        _ => rng.between(length, 2500),
+    };
+    room as usize
+}
+
+fn one_sound(calls: &impl Calls, table: &Table, counts: &mut Counts) -> Compared<()> {
+    counts.add(Line::Sound, compare_sound(calls, table)?);
+    counts.add_makers(table);
+    Ok(())
+}
+
+/// Tables that makers alone make unsound, an allocate by an object that was made, and a destroy of one.
+fn compare_makers(calls: &impl Calls, rng: &mut Rng, counts: &mut Counts) -> Compared<()> {
+    for kind in Damage::ALL {
+        if !kind.shows_in(Version::One) {
+            one_sound(calls, &damaged_table(rng, kind), counts)?;
+        }
+    }
+    for case in [allocate_by_made(rng), destroy_of_made(rng)] {
+        one_case(calls, case, counts)?;
+    }
+    Ok(())
+}
+
+/// A step on a table of its own.
+fn one_case(calls: &impl Calls, case: StepCase, counts: &mut Counts) -> Compared<()> {
+    let mut twin = Twin::new(case.table);
+    one_step(calls, &mut twin, &ask(case.request), counts)
 }
 
 /// A test in layers, which takes as many rounds as it has layers.
@@ -66,13 +154,7 @@ fn compare_layered(calls: &impl Calls, rng: &mut Rng, counts: &mut Counts) -> Co
 /// A request of each kind of empty copies, on a table of its own.
 fn compare_empty(calls: &impl Calls, rng: &mut Rng, counts: &mut Counts) -> Compared<()> {
     for kind in EmptyKind::ALL {
-        let case = empty_copy_case(rng, kind);
-        one_step(
-            calls,
-            &mut Twin::new(case.table),
-            &ask(case.request),
-            counts,
-        )?;
+        one_case(calls, empty_copy_case(rng, kind), counts)?;
     }
     Ok(())
 }

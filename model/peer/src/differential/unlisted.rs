@@ -1,7 +1,7 @@
 //! Which tests have a member with wk alone over a non-member for which the list has no wk. Their answers are
 //! counted apart too, so that it is seen how often such a test was compared.
 
-use yavrinks_model::image::{self, big_endian, IMAGE_LENGTH};
+use yavrinks_model::image::{self, big_endian, Version};
 use yavrinks_model::table::Table;
 use yavrinks_model::wire::decode_list;
 use yavrinks_tools::generate::{unlisted_wk, INPUT_COUNT_AT};
@@ -10,6 +10,9 @@ use super::counts::{Counts, Line};
 
 /// The numbers of a test, or of what begins with one, that came as far as the members' capabilities.
 const JUDGED: [u8; 5] = [0, 12, 13, 18, 19];
+
+/// The length of the image that an input of `confine` begins with.
+const IMAGE_LENGTH: usize = Version::One.image_length();
 
 /// What a test is given: table, members and the bytes of a list.
 pub type Test<'a> = (&'a Table, u64, &'a [u8]);

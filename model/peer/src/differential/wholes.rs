@@ -6,7 +6,7 @@ use yavrinks_model::access::potential_access;
 use yavrinks_model::chain::chain;
 use yavrinks_model::confine::confine;
 use yavrinks_model::confinement::{confinement_test, Tested};
-use yavrinks_model::image;
+use yavrinks_model::image::{self, Version, VERSION_AT};
 use yavrinks_model::table::Table;
 use yavrinks_model::take_grant;
 use yavrinks_model::wire::decode_list;
@@ -16,6 +16,18 @@ use yavrinks_tools::rows::rows;
 use super::facts::{same, Compared, Facts};
 use crate::archive::Calls;
 use crate::convert::to_raw;
+
+/// The wholly unborn table.
+pub fn compare_unborn(calls: &impl Calls) -> Compared<()> {
+    let facts = |table: &raw::Table| Facts::new().table("table", table);
+    let (expected, found) = (to_raw(&Table::unborn()), calls.unborn());
+    same(
+        "captable_unborn",
+        Facts::new,
+        facts(&expected),
+        facts(&found),
+    )
+}
 
 /// Soundness, by the archive and by the scan in C.
 pub fn compare_sound(calls: &impl Calls, table: &Table) -> Compared<u8> {
@@ -156,13 +168,34 @@ fn shown((number, chain): (u8, Vec<u8>)) -> raw::Shown {
     }
 }
 
-/// Writing into a copy of the buffer; what was written is then read.
-pub fn compare_write(calls: &impl Calls, table: &Table, buffer: &[u8]) -> Compared<u8> {
+/// The call that writes in a version, by name.
+fn write_name(version: Version) -> &'static str {
+    match version {
+        Version::One => "captable_write_older",
+        Version::Two => "captable_write",
+    }
+}
+
+/// The archive's writing in a version.
+fn write_in(calls: &impl Calls, version: Version, table: &mut raw::Table, buffer: &mut [u8]) -> u8 {
+    match version {
+        Version::One => calls.write_older(table, buffer),
+        Version::Two => calls.write(table, buffer),
+    }
+}
+
+/// Writing in a version into a copy of the buffer; what was written is then read.
+pub fn compare_write(
+    calls: &impl Calls,
+    version: Version,
+    table: &Table,
+    buffer: &[u8],
+) -> Compared<u8> {
     let given = to_raw(table);
     let mut expected = Box::<[u8]>::from(buffer);
-    let number = image::write(table, &mut expected);
+    let number = image::write(version, table, &mut expected);
     let (mut lent, mut found) = (given, Box::<[u8]>::from(buffer));
-    let answer = calls.write(&mut lent, &mut found);
+    let answer = write_in(calls, version, &mut lent, &mut found);
     let facts = |number: u8, buffer: &[u8], table: &raw::Table| {
         Facts::new()
             .number("number", number)
@@ -171,18 +204,18 @@ pub fn compare_write(calls: &impl Calls, table: &Table, buffer: &[u8]) -> Compar
     };
     let case = || Facts::new().table("table", &given).bytes("buffer", buffer);
     same(
-        "captable_write",
+        write_name(version),
         case,
         facts(number, &expected, &given),
         facts(answer, &found, &lent),
     )?;
     if number == 0 {
-        compare_read(calls, &found[..image::IMAGE_LENGTH])?;
+        compare_read(calls, &found[..version.image_length()])?;
     }
     Ok(number)
 }
 
-/// Reading any bytes.
+/// Reading any bytes. What is read of an image is written back in its version, to equal bytes.
 pub fn compare_read(calls: &impl Calls, bytes: &[u8]) -> Compared<u8> {
     let (number, table) = image::read(bytes);
     let mut lent = Box::<[u8]>::from(bytes);
@@ -199,6 +232,23 @@ pub fn compare_read(calls: &impl Calls, bytes: &[u8]) -> Compared<u8> {
         facts(number, &to_raw(&table), bytes),
         facts(found.number, &found.table, &lent),
     )?;
+    let version = bytes.get(VERSION_AT).and_then(|&byte| Version::of(byte));
+    if let (0, Some(version)) = (number, version) {
+        let mut read = found.table;
+        let mut back = vec![0; bytes.len()];
+        let answer = write_in(calls, version, &mut read, &mut back);
+        let facts = |number: u8, image: &[u8]| {
+            let facts = Facts::new().number("number", number);
+            facts.bytes("image written back", image)
+        };
+        let case = || Facts::new().table("table", &found.table);
+        same(
+            write_name(version),
+            case,
+            facts(0, bytes),
+            facts(answer, &back),
+        )?;
+    }
     Ok(number)
 }
 

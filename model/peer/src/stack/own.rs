@@ -7,7 +7,7 @@ use std::mem::{size_of, size_of_val};
 use captable::raw;
 use yavrinks_tools::generate::printed_number;
 
-use crate::calls::{version_number, Call, Sample};
+use crate::calls::{unborn_number, version_number, Call, Sample};
 use crate::convert::to_raw;
 
 /// The length of the stack: far more than any call should take.
@@ -44,7 +44,6 @@ fn taken(call: Call, sample: &Sample, pattern: u8) -> Option<usize> {
     let mut stack = vec![u128::from_ne_bytes([pattern; 16]); LENGTH / 16];
     // SAFETY: the arguments are those of the call, and what they point to lives until after it.
     let registers = unsafe { call_on(&mut stack, function(call), arguments, pushed) };
-    let result: Vec<u8> = result.iter().flat_map(|word| word.to_ne_bytes()).collect();
     (number(call, registers, &result) == sample.number).then(|| depth(&stack, pattern))
 }
 
@@ -60,7 +59,9 @@ fn function(call: Call) -> *const () {
         Call::Read => raw::captable_read as *const (),
         Call::Import => raw::captable_import as *const (),
         Call::Write => raw::captable_write as *const (),
+        Call::WriteOlder => raw::captable_write_older as *const (),
         Call::Confine => raw::captable_confine as *const (),
+        Call::Unborn => raw::captable_unborn as *const (),
         Call::Version => raw::captable_version as *const (),
     }
 }
@@ -91,18 +92,19 @@ fn arguments(call: Call, sample: &Sample, places: &Places) -> Arguments {
         Call::Step => [table, start, length, 0, 0],
         Call::Stepped | Call::Read | Call::Import => [result, start, length, 0, 0],
         Call::Sound | Call::Version => [0; 5],
-        Call::Access => [result, 0, 0, 0, 0],
+        Call::Access | Call::Unborn => [result, 0, 0, 0, 0],
         Call::Test => [members, start, length, 0, 0],
         Call::Chain => [result, members, start, length, object],
-        Call::Write => [start, length, 0, 0, 0],
+        Call::Write | Call::WriteOlder => [start, length, 0, 0, 0],
         Call::Confine => [start, length, result, 0, 0],
     }
 }
 
 /// The number that was answered, in a register or in what was given back.
-fn number(call: Call, registers: [u64; 2], result: &[u8]) -> u8 {
+fn number(call: Call, registers: [u64; 2], place: &[u64]) -> u8 {
+    let result: Vec<u8> = place.iter().flat_map(|word| word.to_ne_bytes()).collect();
     match call {
-        Call::Step | Call::Sound | Call::Write => registers[0] as u8,
+        Call::Step | Call::Sound | Call::Write | Call::WriteOlder => registers[0] as u8,
         Call::Test => (registers[1] >> TEST_NUMBER_BIT) as u8,
         Call::Stepped | Call::Access | Call::Read | Call::Import => result[NUMBER_AT],
         Call::Chain => result[CHAIN_NUMBER_AT],
@@ -110,6 +112,8 @@ fn number(call: Call, registers: [u64; 2], result: &[u8]) -> u8 {
             let count = usize::try_from(registers[0]).map_or(0, |count| count.min(256));
             printed_number(&String::from_utf8_lossy(&result[..count]))
         }
+        // SAFETY: the place is aligned as a table is and larger, and all of its bytes have a value.
+        Call::Unborn => unborn_number(unsafe { &*place.as_ptr().cast() }),
         Call::Version => version_number(registers[0] as u32),
     }
 }

@@ -9,6 +9,8 @@ use yavrinks_peer::archive::{Archive, Calls};
 use yavrinks_peer::convert::{to_model, to_raw};
 use yavrinks_tools::copies::{copies, landed_by, Copied};
 
+use super::is_found;
+
 /// A request that was done: the table before it and the one after it, and the reply.
 pub struct Done {
     pub before: Table,
@@ -77,4 +79,23 @@ impl<F: Fn(&raw::Table, &mut [u8]) -> raw::Outcome> Calls for Lent<F> {
         *table = outcome.table;
         outcome.number
     }
+}
+
+/// What an archive makes of a request that was done.
+pub type Wrong = fn(&mut Done);
+
+/// The steps of such an archive.
+pub fn steps(wrong: Wrong) -> impl Fn(&raw::Table, &mut [u8]) -> raw::Outcome {
+    move |table, bytes| outcome(wrong, table, bytes)
+}
+
+/// Is an archive that leaves such a table found out, whichever form of the step is wrong?
+#[track_caller]
+pub fn table_is_found(wrong: Wrong) {
+    is_found(
+        &ByValue(steps(wrong)),
+        "captable_step_by_value",
+        "table given back",
+    );
+    is_found(&Lent(steps(wrong)), "captable_step", "table left");
 }

@@ -10,27 +10,8 @@ use yavrinks_model::wire::encode;
 use yavrinks_peer::convert::to_raw;
 use yavrinks_tools::copies::reply_slot;
 
-use super::done::{outcome, ByValue, Done, Lent};
-use super::{is_found, told_of};
-
-/// What an archive makes of a request that was done.
-type Wrong = fn(&mut Done);
-
-/// The steps of such an archive.
-fn steps(wrong: Wrong) -> impl Fn(&raw::Table, &mut [u8]) -> raw::Outcome {
-    move |table, bytes| outcome(wrong, table, bytes)
-}
-
-/// Is an archive with such slots found out, whichever form of the step is wrong?
-#[track_caller]
-fn slots_are_found(wrong: Wrong) {
-    is_found(
-        &ByValue(steps(wrong)),
-        "captable_step_by_value",
-        "table given back",
-    );
-    is_found(&Lent(steps(wrong)), "captable_step", "table left");
-}
+use super::done::{outcome, steps, table_is_found, ByValue, Done, Lent, Wrong};
+use super::told_of;
 
 fn empty_copies_empty(done: &mut Done) {
     done.land_all();
@@ -38,7 +19,7 @@ fn empty_copies_empty(done: &mut Done) {
 
 #[test]
 fn empty_copies_that_empty_are_found() {
-    slots_are_found(empty_copies_empty);
+    table_is_found(empty_copies_empty);
 }
 
 fn fetch_alone_keeps(done: &mut Done) {
@@ -49,7 +30,7 @@ fn fetch_alone_keeps(done: &mut Done) {
 
 #[test]
 fn the_rule_in_fetch_alone_is_found() {
-    slots_are_found(fetch_alone_keeps);
+    table_is_found(fetch_alone_keeps);
 }
 
 fn all_but_fetch_keep(done: &mut Done) {
@@ -78,10 +59,10 @@ fn all_but_allocate_keep(done: &mut Done) {
 
 #[test]
 fn one_request_without_the_rule_is_found() {
-    slots_are_found(all_but_fetch_keep);
-    slots_are_found(all_but_store_keep);
-    slots_are_found(all_but_send_keep);
-    slots_are_found(all_but_allocate_keep);
+    table_is_found(all_but_fetch_keep);
+    table_is_found(all_but_store_keep);
+    table_is_found(all_but_send_keep);
+    table_is_found(all_but_allocate_keep);
 }
 
 /// Only an empty source keeps; a copy that is weakened to nothing still empties.
@@ -97,7 +78,7 @@ fn weakened_copies_empty(done: &mut Done) {
 
 #[test]
 fn weakening_without_the_rule_is_found() {
-    slots_are_found(weakened_copies_empty);
+    table_is_found(weakened_copies_empty);
 }
 
 /// The other way about: only a copy that is weakened to nothing keeps.
@@ -113,7 +94,7 @@ fn empty_sources_empty(done: &mut Done) {
 
 #[test]
 fn the_rule_in_weakening_alone_is_found() {
-    slots_are_found(empty_sources_empty);
+    table_is_found(empty_sources_empty);
 }
 
 /// After an empty copy to a slot no filled one goes there.
@@ -134,7 +115,7 @@ fn empty_copies_block(done: &mut Done) {
 
 #[test]
 fn empty_copies_that_block_later_ones_are_found() {
-    slots_are_found(empty_copies_block);
+    table_is_found(empty_copies_block);
 }
 
 /// An empty copy gives a slot back what it held before the request, whatever an earlier pair put there.
@@ -151,7 +132,7 @@ fn empty_copies_take_back(done: &mut Done) {
 
 #[test]
 fn empty_copies_that_take_earlier_ones_back_are_found() {
-    slots_are_found(empty_copies_take_back);
+    table_is_found(empty_copies_take_back);
 }
 
 /// Empty copies to the reply slot keep it from the reply too.
@@ -172,7 +153,7 @@ fn reply_is_kept_out(done: &mut Done) {
 
 #[test]
 fn a_reply_that_empty_copies_keep_out_is_found() {
-    slots_are_found(reply_is_kept_out);
+    table_is_found(reply_is_kept_out);
 }
 
 /// A pair of a send to oneself reads a slot as the pairs before it left it, and finds it filled.
@@ -199,7 +180,7 @@ fn sends_to_oneself_read_what_was_copied(done: &mut Done) {
 
 #[test]
 fn sends_to_oneself_that_read_what_was_copied_are_found() {
-    slots_are_found(sends_to_oneself_read_what_was_copied);
+    table_is_found(sends_to_oneself_read_what_was_copied);
 }
 
 /// Where a slot of the new object gets an empty copy, it keeps what the actor has there.
@@ -217,7 +198,7 @@ fn new_slots_get_the_actors(done: &mut Done) {
 
 #[test]
 fn new_slots_with_what_the_actor_has_there_are_found() {
-    slots_are_found(new_slots_get_the_actors);
+    table_is_found(new_slots_get_the_actors);
 }
 
 fn revokes_keep(done: &mut Done) {
@@ -228,7 +209,7 @@ fn revokes_keep(done: &mut Done) {
 
 #[test]
 fn revokes_that_keep_the_slot_are_found() {
-    slots_are_found(revokes_keep);
+    table_is_found(revokes_keep);
 }
 
 /// A request with an empty copy is refused by 4.

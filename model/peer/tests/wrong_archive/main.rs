@@ -2,17 +2,19 @@
 
 mod done;
 mod empty;
+mod makers;
 mod rights;
 mod rounds;
 mod weak;
 
 use captable::raw;
+use yavrinks_model::image::Version;
 use yavrinks_peer::archive::{Archive, Calls};
 use yavrinks_peer::differential::{compare_inputs, compare_requests, Counts, Difference, Line};
 use yavrinks_peer::samples::mended;
 use yavrinks_tools::empty_kinds::EmptyKind;
 use yavrinks_tools::generate::{
-    CONFINEMENT_NUMBERS, CONFINE_NUMBERS, IMAGE_NUMBERS, IMPORT_NUMBERS, SHOWN_NUMBERS,
+    CONFINEMENT_NUMBERS, CONFINE_NUMBERS, IMPORT_NUMBERS, SHOWN_NUMBERS,
 };
 
 /// Enough to meet every call and every number.
@@ -42,6 +44,14 @@ fn is_found(calls: &impl Calls, call: &str, part: &str) {
     assert_eq!(first, Some(expected.as_str()), "{told}");
 }
 
+/// Is the difference in this call, and first of all in this part of its answer?
+#[track_caller]
+fn is_found_in(calls: &impl Calls, call: &str, part: &str) {
+    let told = told_of(calls);
+    let expected = format!("{call} differs from the model in: {part}");
+    assert!(told.starts_with(&expected), "{told}");
+}
+
 #[test]
 fn the_linked_archive_has_no_difference() {
     assert!(first_difference(&Archive).is_none());
@@ -53,13 +63,16 @@ fn every_number_of_every_call_is_met() {
     let mut counts = Counts::default();
     compare_requests(&Archive, 1, REQUESTS, &mut counts).expect("no difference");
     compare_inputs(&Archive, 1, INPUTS, &mut counts).expect("no difference");
-    let lines: [(Line, &[u8], u64); 8] = [
+    let lines: [(Line, &[u8], u64); 11] = [
         (Line::Sound, &[0, 1], 30),
         (Line::Access, &[0], 30),
         (Line::Test, &CONFINEMENT_NUMBERS, 3),
         (Line::Chain, &SHOWN_NUMBERS, 2),
-        (Line::Write, &[0, 16], 3),
-        (Line::Read, &IMAGE_NUMBERS, 30),
+        (Line::Write(Version::One), &[0, 1, 16, 23], 39),
+        (Line::Write(Version::Two), &[0, 1, 16], 39),
+        (Line::Read(Version::One), &[0, 1, 14], 30),
+        (Line::Read(Version::Two), &[0, 1, 14], 30),
+        (Line::ReadOther, &[14, 15], 10),
         (Line::Import, &IMPORT_NUMBERS, 60),
         (Line::Confine, &CONFINE_NUMBERS, 5),
     ];
@@ -146,7 +159,7 @@ struct TouchedBuffer;
 impl Calls for TouchedBuffer {
     fn write(&self, table: &mut raw::Table, buffer: &mut [u8]) -> u8 {
         let number = Archive.write(table, buffer);
-        if let Some(after) = buffer.get_mut(1923) {
+        if let Some(after) = buffer.get_mut(1987) {
             *after ^= 1;
         }
         number

@@ -1,16 +1,18 @@
 //! The cases: what the definitions are asked, and what the model answers.
 //! Every expected value is computed here, by the model; only the shared tests and steps come with their own.
 
-use crate::generate::{ConfinementCase, ShownCase};
+use crate::generate::{printed_number, ConfinementCase, ShownCase};
 use crate::rights::{Cells, Row};
 use crate::rows::rows;
 use yavrinks_model::access::potential_access;
 use yavrinks_model::chain::chain;
+use yavrinks_model::confine::confine;
 use yavrinks_model::confinement::{confinement_test, passes, Entry, Tested, MAX_ENTRIES};
-use yavrinks_model::image::{read, write};
+use yavrinks_model::image::{read, write, Version};
 use yavrinks_model::refusal::Refusal;
 use yavrinks_model::rounds::rounds;
 use yavrinks_model::runs::{clean_at_start, clean_part, run, CleanPart};
+use yavrinks_model::set;
 use yavrinks_model::step::{landed, step, weaken, Code, Request};
 use yavrinks_model::table::{Capability, Table};
 use yavrinks_model::take_grant::import;
@@ -80,12 +82,23 @@ pub enum Question {
     Access {
         table: Table,
     },
+    /// Whether a table is sound where a record has each of some makers.
+    Sound {
+        table: Table,
+        n: u8,
+        makers: Vec<u8>,
+    },
     Read {
         image: Vec<u8>,
     },
     Write {
+        version: Version,
         table: Table,
         buffer: Vec<u8>,
+    },
+    /// What the program decides of an input.
+    Decision {
+        input: Vec<u8>,
     },
     /// The table that a take-and-grant table becomes.
     Import {
@@ -118,11 +131,15 @@ pub enum Answer {
     There(Vec<u64>),
     /// For each capability, whether it passes; where one does not, this counts as refused by 12.
     Passing(Vec<bool>),
+    /// For each maker, whether the table is sound; where it is not, this counts as refused by 1.
+    Sound(Vec<bool>),
     /// The object numbers of a chain.
     Chain(u8, Vec<u8>),
     /// The rows of a relation.
     Rows(u8, Vec<u64>),
     Buffer(u8, Vec<u8>),
+    /// The bound comes with the number.
+    Decided(u8, u64),
     /// A request; one without fields counts as refused by 2.
     Ask(Request),
     /// A list; one that is too long counts as refused by 11.
@@ -157,8 +174,11 @@ const PASSING: &str = "rights of a member";
 const CHAIN: &str = "chain to an object";
 const LEAST_CHAIN: &str = "least chain";
 const ACCESS: &str = "potential access";
+const SOUND: &str = "sound by makers";
 const READ: &str = "image read";
+const OLDER: &str = "image written, older";
 const WRITTEN: &str = "image written";
+const DECISION: &str = "what confine decides";
 const IMPORT: &str = "import";
 const REQUEST_BYTES: &str = "request as bytes";
 const LIST_BYTES: &str = "list as bytes";
@@ -168,9 +188,10 @@ pub fn subjects() -> Vec<String> {
     let mut subjects = vec![CLEAN.to_string()];
     subjects.extend(Code::ALL.map(Code::label));
     let steps = [UNKNOWN, LANDING, WORTH, NEEDS, WEAKENING, RUN];
-    let wholes = [TEST, THERE, PASSING, CHAIN, LEAST_CHAIN, ACCESS];
-    let bytes = [READ, WRITTEN, IMPORT, REQUEST_BYTES, LIST_BYTES];
-    let others = steps.into_iter().chain(wholes).chain(bytes);
+    let wholes = [TEST, THERE, PASSING, CHAIN, LEAST_CHAIN, ACCESS, SOUND];
+    let images = [READ, OLDER, WRITTEN, DECISION];
+    let bytes = [IMPORT, REQUEST_BYTES, LIST_BYTES];
+    let others = steps.into_iter().chain(wholes).chain(images).chain(bytes);
     subjects.extend(others.map(String::from));
     subjects
 }
@@ -218,12 +239,21 @@ impl Question {
                 let (number, access) = potential_access(table);
                 Answer::Rows(number, rows(&access))
             }
+            Question::Sound { table, n, makers } => {
+                let sound = makers.iter().map(|&maker| sound_if(table, *n, maker));
+                Answer::Sound(sound.collect())
+            }
             Question::Read { image } => table_answer(read(image)),
-            Question::Write { table, buffer } => {
+            Question::Write {
+                version,
+                table,
+                buffer,
+            } => {
                 let mut written = buffer.clone();
-                let number = write(table, &mut written);
+                let number = write(*version, table, &mut written);
                 Answer::Buffer(number, written)
             }
+            Question::Decision { input } => decision(&confine(input)),
             Question::Import { bytes } => table_answer(import(bytes)),
             Question::RequestBytes { bytes } => Answer::Ask(wire::decode(bytes)),
             Question::ListBytes { bytes } => Answer::Entries(wire::decode_list(bytes)),
@@ -249,8 +279,13 @@ impl Question {
             Question::Chain { .. } => CHAIN,
             Question::LeastChain { .. } => LEAST_CHAIN,
             Question::Access { .. } => ACCESS,
+            Question::Sound { .. } => SOUND,
             Question::Read { .. } => READ,
-            Question::Write { .. } => WRITTEN,
+            Question::Write { version, .. } => match version {
+                Version::One => OLDER,
+                Version::Two => WRITTEN,
+            },
+            Question::Decision { .. } => DECISION,
             Question::Import { .. } => IMPORT,
             Question::RequestBytes { .. } => REQUEST_BYTES,
             Question::ListBytes { .. } => LIST_BYTES,
@@ -266,16 +301,30 @@ impl Answer {
             Answer::Table(number, _)
             | Answer::Chain(number, _)
             | Answer::Rows(number, _)
-            | Answer::Buffer(number, _) => *number,
+            | Answer::Buffer(number, _)
+            | Answer::Decided(number, _) => *number,
             Answer::Tested(tested) => tested.number,
             Answer::Run(replies, _) => replies.last().copied().unwrap_or(0),
             Answer::Ask(Request::Unknown { .. }) => 2,
             Answer::Entries(list) if list.len() > MAX_ENTRIES => 11,
             Answer::Passing(all) if all.contains(&false) => Refusal::RightNotListed.number(),
+            Answer::Sound(all) if all.contains(&false) => Refusal::TableNotSound.number(),
             Answer::Clean(..) | Answer::Slots(_) | Answer::Worth(_) | Answer::There(_) => 0,
-            Answer::Ask(_) | Answer::Entries(_) | Answer::Passing(_) => 0,
+            Answer::Ask(_) | Answer::Entries(_) | Answer::Passing(_) | Answer::Sound(_) => 0,
         }
     }
+}
+
+fn sound_if(table: &Table, n: u8, maker: u8) -> bool {
+    let mut table = table.clone();
+    table.record_mut(n).maker = maker;
+    table.is_sound()
+}
+
+/// What a printed text says: the number, and the bound, a number a line.
+fn decision(printed: &str) -> Answer {
+    let numbers = printed.lines().filter_map(|line| line.parse::<u8>().ok());
+    Answer::Decided(printed_number(printed), set::of(numbers))
 }
 
 fn table_answer((number, table): (u8, Table)) -> Answer {

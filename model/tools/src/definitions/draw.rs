@@ -4,19 +4,24 @@
 use super::cases::{Answer, Case, Question};
 use super::clean::clean_run;
 use super::landing::{landing, LANDINGS};
+use super::makers::{by_makers, STATUSES};
 use super::passing::{passing, PASSING_LISTS};
 use super::spreading::{spreading, SPREADINGS};
 use super::worth::{worth, WORTH_QUESTIONS};
 use crate::empty_kinds::EmptyKind;
 use crate::generate::{
-    any_damage, any_sound_table, can_meet, confinement_case, empty_copy_case, full_import,
-    image_case, import_case, layered_case, likely_request, shown_case, sound_table, step_case,
-    Shape, StepCase, CONFINEMENT_NUMBERS, IMAGE_NUMBERS, IMPORT_NUMBERS, SHOWN_NUMBERS,
+    allocate_by_made, any_damage, can_meet, confine_input, confinement_case, destroy_of_made,
+    empty_copy_case, full_import, image_of, import_case, layered_case, likely_request, shown_case,
+    sound_table, step_case, write_case, Shape, StepCase, CONFINEMENT_NUMBERS, CONFINE_NUMBERS,
+    IMAGE_NUMBERS, IMPORT_NUMBERS, SHOWN_NUMBERS, WRITE_NUMBERS,
 };
 use crate::rng::Rng;
-use crate::shared::{shared_imports, shared_rounds, shared_steps, shared_tests};
-use crate::shared::{SharedStep, SharedTest};
-use yavrinks_model::image::IMAGE_LENGTH;
+use crate::shared::{
+    shared_images, shared_imports, shared_rounds, shared_steps, shared_steps_with_makers,
+    shared_tests, shared_tests_with_makers,
+};
+use crate::shared::{ImageLine, SharedStep, SharedTest};
+use yavrinks_model::image::{read, Version, VERSION_AT};
 use yavrinks_model::step::{step, step_in_place, Code, Request};
 use yavrinks_model::table::{Capability, ALL_RIGHTS, RD, TX, WK};
 use yavrinks_model::wire::encode;
@@ -31,10 +36,12 @@ pub struct Counts {
     pub rounds: usize,
     /// How many of the shared imports are asked, from the first on.
     pub imports: usize,
-    /// How many of the shared tests are asked, from the first of 2.3 to the last of 2.6.
+    /// How many of the shared tests are asked, from the first of 2.3 over those of 2.6 to the last of 2.7.
     pub tests: usize,
-    /// How many of the shared steps are asked, from the first on.
+    /// How many of the shared steps are asked, from the first of 2.4 to the last of 2.7.
     pub steps: usize,
+    /// How many of the shared images are asked, from the first on.
+    pub images: usize,
 }
 
 impl Default for Counts {
@@ -45,21 +52,25 @@ impl Default for Counts {
             imports: 0,
             tests: 0,
             steps: 0,
+            images: 0,
         }
     }
 }
 
-/// All cases of a run: the questions with the model's answers, then the shared tests and the shared steps
-/// with their own.
+/// All cases of a run: the questions with the model's answers, then the shared tests, the shared steps and the
+/// shared images with their own.
 pub fn cases(seed: u64, counts: &Counts) -> Vec<Case> {
-    let tests = shared_tests().into_iter().chain(shared_rounds());
-    let tests = tests.take(counts.tests);
-    let steps = shared_steps().into_iter().take(counts.steps);
+    let tests = shared_tests_with_makers().into_iter().chain(shared_tests());
+    let tests = tests.chain(shared_rounds()).take(counts.tests);
+    let steps = shared_steps_with_makers().into_iter().chain(shared_steps());
+    let steps = steps.take(counts.steps);
+    let images = shared_images().into_iter().take(counts.images);
     let questions = questions(seed, counts).into_iter();
     questions
         .map(Case::new)
         .chain(tests.map(stated_test))
         .chain(steps.map(stated_step))
+        .chain(images.map(stated_image))
         .collect()
 }
 
@@ -82,20 +93,45 @@ fn stated_step(shared: SharedStep) -> Case {
     }
 }
 
+/// A shared image, read or written, with the answer that stands in its file.
+fn stated_image(line: ImageLine) -> Case {
+    match line {
+        ImageLine::Read { bytes, answer } => Case {
+            question: Question::Read { image: bytes },
+            answer: Answer::Table(answer.0, answer.1),
+        },
+        ImageLine::Write {
+            version,
+            table,
+            before,
+            answer,
+        } => Case {
+            question: Question::Write {
+                version,
+                table,
+                buffer: before,
+            },
+            answer: Answer::Buffer(answer.0, answer.1),
+        },
+    }
+}
+
 /// Draws the question of a turn: the first, the second and so on of its kind.
 type Draw = fn(&mut Rng, usize) -> Question;
 
 /// The questions of a run. Each kind has a generator of its own, so that the number of one kind
 /// does not change the questions of another.
 pub fn questions(seed: u64, counts: &Counts) -> Vec<Question> {
-    let in_a_round: [(usize, Draw); 17] = [
+    let in_a_round: [(usize, Draw); 19] = [
         (aims().len(), aimed_step),
-        (3, telling_step),
+        (TELLING, telling_step),
         (4, run),
         (12, test),
         (2, relation),
-        (4, image),
-        (6, written),
+        (STATUSES.len(), by_makers),
+        (IMAGES, image),
+        (WRITES, written),
+        (DECISIONS, decision),
         (18, request_bytes),
         (6, list_bytes),
         (12, chain),
@@ -156,12 +192,17 @@ fn stated(case: StepCase) -> Question {
     }
 }
 
-/// What went wrong in earlier tables, and a list that is too long.
+/// How many steps are drawn by hand.
+const TELLING: usize = 5;
+
+/// What went wrong in earlier tables, a list that is too long, and makers.
 fn telling_step(rng: &mut Rng, turn: usize) -> Question {
-    stated(match turn % 3 {
+    stated(match turn % TELLING {
         0 => weak_fetch(rng),
         1 => send_to_oneself(rng),
-        _ => long_list_step(rng),
+        2 => long_list_step(rng),
+        3 => allocate_by_made(rng),
+        _ => destroy_of_made(rng),
     })
 }
 
@@ -251,6 +292,7 @@ fn relation(rng: &mut Rng, turn: usize) -> Question {
         stocked_percent: 50,
         filled_percent: 20,
         weak_percent: 60,
+        made_percent: 50,
     };
     let mut table = sound_table(rng, &shape);
     if turn % 2 == 1 {
@@ -259,30 +301,88 @@ fn relation(rng: &mut Rng, turn: usize) -> Question {
     Question::Access { table }
 }
 
+/// How many images are read: every number in both versions, and heads that do not fit.
+const IMAGES: usize = 12;
+
+/// Every number in both versions; then two bytes, a head that means nothing, and in each version the version byte
+/// of the other.
 fn image(rng: &mut Rng, turn: usize) -> Question {
-    let aim = IMAGE_NUMBERS[turn % IMAGE_NUMBERS.len()];
-    Question::Read {
-        image: image_case(rng, aim),
+    let version = Version::ALL[turn % 2];
+    let image = match turn % IMAGES {
+        8 => vec![0x07, 0x83],
+        9 => vec![0x07, 0xC3, 3],
+        10 | 11 => {
+            let mut image = image_of(rng, version, 0);
+            image[VERSION_AT] = 3 - version.number();
+            image
+        }
+        1 => image_with_makers(rng),
+        place => image_of(rng, version, IMAGE_NUMBERS[place / 2]),
+    };
+    Question::Read { image }
+}
+
+fn image_with_makers(rng: &mut Rng) -> Vec<u8> {
+    loop {
+        let image = image_of(rng, Version::Two, 0);
+        if read(&image).1.has_makers() {
+            return image;
+        }
     }
 }
 
-/// A table, sound or not, and a buffer of the exact length, longer or too short.
+/// How many tables are written: for every number of either version, and five where the length matters.
+const WRITES: usize = WRITE_NUMBERS.len() + 5;
+
+/// Every number of either version, with a buffer of random bytes. Then 23 where the buffer is short and where it is
+/// not, the shortest buffer for the older form, which is too short for the other one, and an unsound table with
+/// makers.
 fn written(rng: &mut Rng, turn: usize) -> Question {
-    let mut table = any_sound_table(rng);
-    let length = match turn % 6 {
-        0 | 1 => IMAGE_LENGTH,
-        2 => IMAGE_LENGTH - 1,
-        3 => 0,
-        4 => IMAGE_LENGTH + 1,
-        _ => IMAGE_LENGTH + rng.between(2, 200) as usize,
+    let place = turn % WRITES;
+    let (version, aim, room) = match WRITES - place {
+        1 => (Version::One, 23, Some(1922)),
+        2 => (Version::One, 23, Some(1923)),
+        3 => (Version::One, 0, Some(1923)),
+        4 => (Version::Two, 16, Some(1923)),
+        5 => (Version::One, 1, Some(1923)),
+        _ => {
+            let (version, aim) = WRITE_NUMBERS[place];
+            (version, aim, None)
+        }
     };
-    if turn % 6 == 1 {
-        any_damage(rng, &mut table);
+    let mut case = write_case(rng, version, aim);
+    while place == WRITES - 5 && !case.table.has_makers() {
+        case = write_case(rng, version, aim);
     }
+    case.room = room.unwrap_or(case.room);
     Question::Write {
-        table,
-        buffer: (0..length).map(|_| rng.byte(0, 255)).collect(),
+        version,
+        table: case.table,
+        buffer: (0..case.room).map(|_| rng.byte(0, 255)).collect(),
     }
+}
+
+/// How many inputs of the program there are: every number, and some more where the version is wrong.
+const DECISIONS: usize = CONFINE_NUMBERS.len() + 3;
+
+/// Every number; then the version byte of version 2 with its length in the length field, with another, and an
+/// input with a byte too many.
+fn decision(rng: &mut Rng, turn: usize) -> Question {
+    let place = turn % DECISIONS;
+    if let Some(&aim) = CONFINE_NUMBERS.get(place) {
+        let input = confine_input(rng, aim);
+        return Question::Decision { input };
+    }
+    let mut input = confine_input(rng, 0);
+    match DECISIONS - place {
+        1 => input[..3].copy_from_slice(&[0x07, 0xC3, 2]),
+        2 => input[..3].copy_from_slice(&[0x83, 0x07, 3]),
+        _ => {
+            input[VERSION_AT] = 2;
+            input.push(0);
+        }
+    }
+    Question::Decision { input }
 }
 
 /// The bytes of a request of each code in turn, then the same with a byte less or more, and any bytes
@@ -313,11 +413,13 @@ fn list_bytes(rng: &mut Rng, turn: usize) -> Question {
     Question::ListBytes { bytes }
 }
 
-/// Every number, and a chain that is shown once more after every second of them.
+/// Every number, and after every second of them a chain that is shown once more, one time in two among others of its
+/// length.
 fn chain(rng: &mut Rng, turn: usize) -> Question {
-    let aim = match turn % 3 {
-        2 => 0,
-        place => SHOWN_NUMBERS[(turn / 3 * 2 + place) % SHOWN_NUMBERS.len()],
+    let aim = match turn % 6 {
+        2 => return Question::Chain(layered_case(rng, WIDTHS[0])),
+        5 => 0,
+        place => SHOWN_NUMBERS[(turn / 3 * 2 + place % 3) % SHOWN_NUMBERS.len()],
     };
     Question::Chain(shown_case(rng, aim))
 }

@@ -2,9 +2,10 @@
 //! values of the model.
 
 /// The crates that the statements are about. What these stand on comes with them.
-pub const CRATES: [&str; 6] = [
+pub const CRATES: [&str; 7] = [
     "isolation",
     "chains",
+    "report",
     "image_out",
     "take_grant",
     "wire",
@@ -21,6 +22,8 @@ use Rattle.mask.specs.Sets.{bits}
 use Rattle.table.specs.declared.Capability.{Capability}
 use Rattle.table.specs.declared.Record.{Record}
 use Rattle.table.specs.declared.Table.{Table}
+use Rattle.table.specs.Cells.{recordAt, putRecord}
+use Rattle.table.specs.Soundness.{sound}
 use Rattle.rights.specs.declared.Need.the-variants.{ReadOrWeak, Write, Send}
 use Rattle.rights.specs.declared.Worth.{Worth}
 use Rattle.rights.specs.Rows.{worthOf, needMet, weaken}
@@ -40,6 +43,7 @@ use Rattle.links.specs.Links.{wordEdge}
 use Rattle.walks.specs.Chains.{leastChain}
 use Rattle.chains.specs.declared.Shown.{Shown}
 use Rattle.chains.specs.Answers.{chainNumber, chainOf}
+use Rattle.image.specs.declared.Version.the-variants.{One, Two}
 use Rattle.image.specs.declared.Loaded.{Loaded}
 use Rattle.image.specs.Images.{readNumber, readOf}
 use Rattle.image_out.specs.Written.{writeNumber, writeRefusal, writtenOf}
@@ -47,13 +51,15 @@ use Rattle.take_grant.specs.declared.Imported.{Imported}
 use Rattle.take_grant.specs.Imports.{importNumber, importOf}
 use Rattle.wire.specs.Wires.{askFrom}
 use Rattle.entries.specs.Entries.{entriesIn}
+use Rattle.lines.specs.declared.Decision.{Decision}
+use Rattle.report.specs.Decisions.{decisionOf}
 use Rattle.isolation.specs.Clean.{cleanAtStart, cleanAtEnd, cleanRequests, cleanReplies}
 
-abbrev object : ℕ → ℕ → ℕ → ℕ → Record
-object status kind word stock = record { status = status; kind = kind; word = word; stock = stock }
+abbrev object : ℕ → ℕ → ℕ → ℕ → ℕ → Record
+object status kind word stock maker = record { status = status; kind = kind; maker = maker; word = word; stock = stock }
 
 abbrev unborn : Record
-unborn = object 0 0 0 0
+unborn = object 0 0 0 0 64
 
 abbrev slot : ℕ → ℕ → Capability
 slot target rights = record { target = target; rights = rights }
@@ -63,6 +69,12 @@ free = slot 0 0
 
 abbrev pair : ℕ → ℕ → Pair
 pair from to = record { from = from; to = to }
+
+abbrev withMaker : Record → ℕ → Record
+withMaker r maker = object (r .status) (r .kind) (r .word) (r .stock) maker
+
+abbrev soundIf : Table → ℕ → ℕ → Bool
+soundIf t n maker = sound (putRecord t n (withMaker (recordAt t n) maker))
 
 abbrev stepped : Stepped → ℕ × Table
 stepped s = (number (s .reply), s .table)
@@ -78,6 +90,9 @@ related a = (accessNumber (a .reply), a .rows)
 
 abbrev loaded : Loaded → ℕ × Table
 loaded l = (readNumber (l .reply), l .table)
+
+abbrev decided : Decision → ℕ × ℕ
+decided d = (d .number, d .bound)
 
 abbrev imported : Imported → ℕ × Table
 imported i = (importNumber (i .reply), i .table)

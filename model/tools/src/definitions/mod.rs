@@ -9,6 +9,8 @@ pub mod crates;
 pub mod draw;
 mod heads;
 mod landing;
+mod makers;
+pub mod misread_makers;
 mod options;
 mod passing;
 pub mod scratch;

@@ -42,6 +42,7 @@ impl Options {
                 "--imports" => options.counts.imports = number(name, value)?,
                 "--tests" => options.counts.tests = number(name, value)?,
                 "--steps" => options.counts.steps = number(name, value)?,
+                "--images" => options.counts.images = number(name, value)?,
                 "--keep" => options.keep = Some(value.into()),
                 "--root" => options.root = value.into(),
                 _ => return Err(format!("unknown option {name}")),

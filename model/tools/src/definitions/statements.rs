@@ -127,11 +127,24 @@ impl Writer<'_> {
             Question::Access { table } => {
                 format!("related (accessOf {})", self.table("table", table))
             }
+            Question::Sound { table, n, makers } => {
+                let table = self.table("table", table);
+                let makers = self.bytes("makers", makers);
+                format!("map (soundIf {table} {n}) {makers}")
+            }
             Question::Read { image } => format!("loaded (readOf {})", self.bytes("image", image)),
-            Question::Write { table, buffer } => {
+            Question::Write {
+                version,
+                table,
+                buffer,
+            } => {
                 let table = self.table("table", table);
                 let buffer = self.bytes("buffer", buffer);
-                format!("writeNumber (writeRefusal {table} {buffer}), writtenOf {table} {buffer}")
+                let from = format!("{} {table} {buffer}", terms::version(*version));
+                format!("writeNumber (writeRefusal {from}), writtenOf {from}")
+            }
+            Question::Decision { input } => {
+                format!("decided (decisionOf {})", self.bytes("input", input))
             }
             Question::Import { bytes } => {
                 format!("imported (importOf {})", self.bytes("bytes", bytes))
@@ -224,7 +237,9 @@ impl Writer<'_> {
                 let sets = terms::numbers(sets.iter().copied());
                 ("List ℕ", format!("({sets})"))
             }
-            Answer::Passing(truths) => ("List Bool", format!("({})", terms::truths(truths))),
+            Answer::Passing(truths) | Answer::Sound(truths) => {
+                ("List Bool", format!("({})", terms::truths(truths)))
+            }
             Answer::Chain(_, chain) if matches!(question, Question::LeastChain(_)) => {
                 ("List ℕ", format!("({})", terms::bytes(chain)))
             }
@@ -244,6 +259,7 @@ impl Writer<'_> {
                 let buffer = self.bytes("after", buffer);
                 ("ℕ × List ℕ", format!("({number}, {buffer})"))
             }
+            Answer::Decided(number, bound) => ("ℕ × ℕ", format!("({number}, {bound})")),
             Answer::Ask(request) => ("Ask", format!("({})", terms::ask(request))),
             Answer::Entries(list) => ("List Capability", format!("({})", terms::entries(list))),
         };

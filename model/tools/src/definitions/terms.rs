@@ -2,8 +2,9 @@
 //! are defined at the head of every module of cases, so that a table takes few words.
 
 use yavrinks_model::confinement::Entry;
+use yavrinks_model::image::Version;
 use yavrinks_model::step::{Pair, Request};
-use yavrinks_model::table::{Capability, Record, Table};
+use yavrinks_model::table::{Capability, Record, Table, NO_MAKER};
 
 /// How many items of a list stand on a line.
 const ITEMS_ON_A_LINE: usize = 8;
@@ -44,9 +45,24 @@ pub fn capability(capability: Capability) -> String {
 
 /// A record without its slots, which the definitions keep in a list of their own.
 pub fn record(record: &Record) -> String {
-    match (record.status, record.kind, record.word, record.stock) {
-        (0, 0, 0, 0) => "unborn".into(),
-        (status, kind, word, stock) => format!("object {status} {kind} {word} {stock}"),
+    let Record {
+        status,
+        kind,
+        word,
+        stock,
+        maker,
+        ..
+    } = record;
+    match (status, kind, word, stock, *maker) {
+        (0, 0, 0, 0, NO_MAKER) => "unborn".into(),
+        _ => format!("object {status} {kind} {word} {stock} {maker}"),
+    }
+}
+
+pub fn version(version: Version) -> &'static str {
+    match version {
+        Version::One => "One",
+        Version::Two => "Two",
     }
 }
 

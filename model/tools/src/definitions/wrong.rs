@@ -2,6 +2,7 @@
 //! accept with any answer checks nothing.
 
 use super::cases::{Answer, Case, Part, Question};
+use super::misread_makers;
 use crate::copies::landed_by;
 use crate::empty_kinds::empty_kinds;
 use crate::misread_rounds::{Misreading, MISREADINGS};
@@ -18,7 +19,8 @@ use yavrinks_model::table::{Capability, Table, ACTIVE, ALIVE, ALL_RIGHTS, WK};
 /// imports also one that is refused and yet brings something in; of capabilities that pass and of copies that
 /// land, one for each that is asked about; of what rights are worth, one for each thing that is said of the values
 /// 0 to 15; of what is there after rounds, one round more for each that adds something; of steps also some where an
-/// empty copy empties; of tests also one for each wrong reading of how many rounds there are.
+/// empty copy empties; of tests also one for each wrong reading of how many rounds there are; of soundness, one for
+/// each maker; and one for each wrong reading of 2.7.
 pub fn wrong_cases(rng: &mut Rng, cases: &[Case]) -> Vec<Case> {
     let mut wrong = Vec::new();
     let mut seen = Vec::new();
@@ -31,7 +33,36 @@ pub fn wrong_cases(rng: &mut Rng, cases: &[Case]) -> Vec<Case> {
     }
     wrong.extend(emptied(cases));
     wrong.extend(MISREADINGS.iter().filter_map(|one| misread(one, cases)));
+    wrong.extend(cases.iter().flat_map(wrong_makers));
+    let of_makers = misread_makers::MISREADINGS.iter();
+    wrong.extend(of_makers.filter_map(|one| misread_maker(one, cases)));
     wrong
+}
+
+/// The first case that a wrong reading of 2.7 answers otherwise, with that answer.
+fn misread_maker(reading: &misread_makers::Misreading, cases: &[Case]) -> Option<Case> {
+    cases.iter().find_map(|case| {
+        let answer = reading.wrong_answer(case)?;
+        Some(with_answer(case, answer))
+    })
+}
+
+/// Each maker by itself, since the checker refuses a short list sooner, with the other answer.
+fn wrong_makers(case: &Case) -> Vec<Case> {
+    let (Question::Sound { table, n, makers }, Answer::Sound(truths)) =
+        (&case.question, &case.answer)
+    else {
+        return Vec::new();
+    };
+    let with_one = |(&maker, &sound): (&u8, &bool)| Case {
+        question: Question::Sound {
+            table: table.clone(),
+            n: *n,
+            makers: vec![maker],
+        },
+        answer: Answer::Sound(vec![!sound]),
+    };
+    makers.iter().zip(truths).map(with_one).collect()
 }
 
 /// The first test of which a wrong reading reports other rounds, with these.
@@ -94,6 +125,7 @@ fn made_wrong(rng: &mut Rng, case: &Case) -> Vec<Case> {
                 .collect(),
         },
         Answer::Worth(_) => wrong_worth(&case.question),
+        Answer::Sound(_) => Vec::new(),
         Answer::There(sets) => one_round_more(&case.question, sets),
         answer if answer.number() == 0 => vec![with_answer(case, other_content(rng, answer))],
         answer => {
@@ -206,7 +238,8 @@ fn other_number(answer: &Answer) -> Answer {
         Answer::Table(number, _)
         | Answer::Chain(number, _)
         | Answer::Rows(number, _)
-        | Answer::Buffer(number, _) => *number = other,
+        | Answer::Buffer(number, _)
+        | Answer::Decided(number, _) => *number = other,
         Answer::Tested(tested) => tested.number = other,
         Answer::Run(replies, _) => {
             if let Some(reply) = replies.last_mut() {
@@ -215,7 +248,7 @@ fn other_number(answer: &Answer) -> Answer {
         }
         Answer::Ask(request) => *request = Request::Read { actor: 0, t: 0 },
         Answer::Entries(list) => list.push((0, 0)),
-        Answer::Passing(truths) => truths.push(true),
+        Answer::Passing(truths) | Answer::Sound(truths) => truths.push(true),
         Answer::There(sets) => sets.push(0),
         Answer::Slots(slots) => slots.push(Capability::EMPTY),
         Answer::Worth(rows) => rows.push([false; 4]),
@@ -246,7 +279,8 @@ fn other_content(rng: &mut Rng, answer: &Answer) -> Answer {
             *request = Request::Unknown { code: 0, actor };
         }
         Answer::Entries(list) => list.push((0, 0)),
-        Answer::Passing(truths) => truths.push(true),
+        Answer::Decided(_, bound) => *bound ^= 1 << rng.between(0, 63),
+        Answer::Passing(truths) | Answer::Sound(truths) => truths.push(true),
         Answer::There(sets) => sets.push(0),
         Answer::Slots(slots) => slots.push(Capability::EMPTY),
         Answer::Worth(rows) => rows.push([false; 4]),
@@ -279,12 +313,13 @@ fn wrong_part(case: &Case, part: Part, mut start: u64, along: &CleanPart) -> Cas
 fn change_table(rng: &mut Rng, table: &mut Table) {
     let record = table.record_mut(rng.byte(0, 63));
     let slot = &mut record.slots[rng.between(0, 7) as usize];
-    match rng.between(0, 5) {
+    match rng.between(0, 6) {
         0 => record.status ^= 1,
         1 => record.kind ^= 1,
         2 => record.word ^= 1 << rng.between(0, 31),
         3 => record.stock ^= 1 << rng.between(0, 63),
-        4 => slot.target ^= 1 << rng.between(0, 7),
+        4 => record.maker ^= 1 << rng.between(0, 7),
+        5 => slot.target ^= 1 << rng.between(0, 7),
         _ => slot.rights ^= 1 << rng.between(0, 7),
     }
 }

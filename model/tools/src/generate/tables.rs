@@ -2,9 +2,10 @@
 //! Most kinds of damage offend one clause alone, so that a missing check shows.
 
 use crate::rng::Rng;
+use yavrinks_model::image::Version;
 use yavrinks_model::set;
 use yavrinks_model::table::{Capability, Record, Table};
-use yavrinks_model::table::{ACTIVE, ALIVE, ALL_RIGHTS, DEAD, PASSIVE, UNBORN, WK};
+use yavrinks_model::table::{ACTIVE, ALIVE, ALL_RIGHTS, DEAD, NO_MAKER, PASSIVE, UNBORN, WK};
 
 /// How full a random table is.
 #[derive(Clone, Debug)]
@@ -21,6 +22,8 @@ pub struct Shape {
     pub filled_percent: u64,
     /// How many of 100 filled slots have wk alone.
     pub weak_percent: u64,
+    /// How many of 100 born objects have a maker.
+    pub made_percent: u64,
 }
 
 impl Shape {
@@ -44,6 +47,7 @@ impl Shape {
             stocked_percent: rng.pick(&[0, 30, 80, 100]).unwrap_or(30),
             filled_percent: rng.pick(&[0, 5, 15, 40, 80, 100]).unwrap_or(15),
             weak_percent: rng.pick(&[0, 30, 70, 95]).unwrap_or(30),
+            made_percent: rng.pick(&[0, 30, 90]).unwrap_or(30),
         }
     }
 
@@ -56,6 +60,7 @@ impl Shape {
             stocked_percent: rng.between(30, 90),
             filled_percent: rng.pick(&[5, 15, 40, 90]).unwrap_or(15),
             weak_percent: rng.pick(&[10, 50, 90]).unwrap_or(50),
+            made_percent: rng.pick(&[0, 20, 60]).unwrap_or(20),
         }
     }
 }
@@ -78,7 +83,27 @@ pub fn sound_table(rng: &mut Rng, shape: &Shape) -> Table {
         *table.record_mut(n) = born_record(rng, shape, born);
     }
     share_stocks(rng, shape, &mut table, unborn);
+    for &n in born {
+        if rng.percent(shape.made_percent) {
+            table.record_mut(n).maker = any_maker(rng, n, born);
+        }
+    }
     table
+}
+
+/// A maker of `n`: now and then itself, else any of `born`, dead or alive.
+pub fn any_maker(rng: &mut Rng, n: u8, born: &[u8]) -> u8 {
+    let other = rng.pick(born).filter(|_| rng.percent(90));
+    other.unwrap_or(n)
+}
+
+/// The table with 64 throughout as the maker, as version 1 of an image has it.
+pub fn without_makers(table: &Table) -> Table {
+    let mut older = table.clone();
+    for record in &mut older.records {
+        record.maker = NO_MAKER;
+    }
+    older
 }
 
 /// A dead record, or an alive one whose slots name objects of `born`.
@@ -162,11 +187,14 @@ pub enum Damage {
     StockOfAlive,
     StockOfDead,
     StockShared,
+    UnbornMaker,
+    MakerUnborn,
+    MakerAbove64,
 }
 
 impl Damage {
     /// Every kind of damage.
-    pub const ALL: [Damage; 16] = [
+    pub const ALL: [Damage; 19] = [
         Damage::StatusValue,
         Damage::KindValue,
         Damage::UnbornKind,
@@ -183,7 +211,19 @@ impl Damage {
         Damage::StockOfAlive,
         Damage::StockOfDead,
         Damage::StockShared,
+        Damage::UnbornMaker,
+        Damage::MakerUnborn,
+        Damage::MakerAbove64,
     ];
+
+    /// Whether an image of the version shows it: version 1 has no makers.
+    pub fn shows_in(self, version: Version) -> bool {
+        let of_maker = matches!(
+            self,
+            Damage::UnbornMaker | Damage::MakerUnborn | Damage::MakerAbove64
+        );
+        version == Version::Two || !of_maker
+    }
 }
 
 /// A table with the given damage.
@@ -198,9 +238,14 @@ pub fn damaged_table(rng: &mut Rng, kind: Damage) -> Table {
 
 /// Damages a sound table in a way that is possible for it. Some way always is.
 pub fn any_damage(rng: &mut Rng, table: &mut Table) {
+    any_damage_in(rng, Version::Two, table);
+}
+
+/// The same, in a way that an image of the version shows.
+pub fn any_damage_in(rng: &mut Rng, version: Version, table: &mut Table) {
     loop {
         let kind = rng.pick(&Damage::ALL).unwrap_or(Damage::StatusValue);
-        if damage(rng, table, kind).is_some() {
+        if kind.shows_in(version) && damage(rng, table, kind).is_some() {
             return;
         }
     }
@@ -232,8 +277,20 @@ pub fn damage(rng: &mut Rng, table: &mut Table, kind: Damage) -> Option<()> {
         Damage::StockOfAlive => stock_number(rng, table, Record::is_alive)?,
         Damage::StockOfDead => stock_number(rng, table, |record| record.status == DEAD)?,
         Damage::StockShared => share_number(rng, table)?,
+        Damage::UnbornMaker => {
+            let maker = rng.pick(&numbers_where(table, Record::is_born))?;
+            table.record_mut(rng.pick(&unborn)?).maker = maker;
+        }
+        Damage::MakerUnborn => any_born(rng, table)?.maker = rng.pick(&unborn)?,
+        Damage::MakerAbove64 => any_born(rng, table)?.maker = rng.byte_above(NO_MAKER),
     }
     Some(())
+}
+
+/// The record of a born number, dead or alive.
+fn any_born<'a>(rng: &mut Rng, table: &'a mut Table) -> Option<&'a mut Record> {
+    let n = rng.pick(&numbers_where(table, Record::is_born))?;
+    Some(table.record_mut(n))
 }
 
 fn leave_word(rng: &mut Rng, table: &mut Table, numbers: &[u8]) -> Option<()> {

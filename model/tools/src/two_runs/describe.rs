@@ -7,7 +7,7 @@ use crate::rights::right_names;
 use yavrinks_model::confinement::Tested;
 use yavrinks_model::set;
 use yavrinks_model::step::{Pair, Request};
-use yavrinks_model::table::{Capability, Record, Table, DEAD, OBJECTS};
+use yavrinks_model::table::{Capability, Record, Table, DEAD, NO_MAKER, OBJECTS};
 
 /// A case that breaks the claim: the start, the requests with their replies, what differs.
 pub fn case_text(rules: &Rules, case: &Case) -> String {
@@ -106,6 +106,9 @@ fn record_text(record: &Record) -> String {
         "passive"
     };
     let mut text = format!("{status}{kind}, word {}", record.word);
+    if record.maker != NO_MAKER {
+        text.push_str(&format!(", made by {}", record.maker));
+    }
     if record.stock != 0 {
         text.push_str(&format!(", stock {}", set_text(record.stock)));
     }

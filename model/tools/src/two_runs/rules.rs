@@ -36,6 +36,28 @@ pub enum Destroyed {
     KindAndSlots,
 }
 
+/// Whom an allocate records as the maker.
+#[derive(Clone, Copy, Debug, PartialEq, Eq)]
+pub enum Recorded {
+    /// As in 2.7: its actor.
+    Actor,
+    /// The lowest alive object.
+    LowestAlive,
+    /// The lowest object that has a capability over the actor; the actor, if none has.
+    HolderOfActor,
+}
+
+/// What becomes of the makers of objects that are born.
+#[derive(Clone, Copy, Debug, PartialEq, Eq)]
+pub enum Makers {
+    /// As in 2.7: they stay.
+    Stay,
+    /// What a destroyed object made has 64.
+    GoWithMaker,
+    /// What is read has its reader.
+    TakenByReader,
+}
+
 /// Which numbers an allocate can make.
 #[derive(Clone, Copy, Debug, PartialEq, Eq)]
 pub enum Makes {
@@ -108,6 +130,8 @@ pub struct Rules {
     pub empty: Empty,
     pub destroyed: Destroyed,
     pub makes: Makes,
+    pub recorded: Recorded,
+    pub makers: Makers,
     pub access: Access,
     pub unlisted: Unlisted,
     pub naming: Naming,
@@ -122,6 +146,8 @@ impl Rules {
         empty: Empty::WhatItHeld,
         destroyed: Destroyed::Kind,
         makes: Makes::OwnStock,
+        recorded: Recorded::Actor,
+        makers: Makers::Stay,
         access: Access::AsWritten,
         unlisted: Unlisted::WkAlone,
         naming: Naming::All,
@@ -141,7 +167,7 @@ pub struct Broken {
 }
 
 /// The broken models. Each of them must be caught.
-pub const BROKEN: [Broken; 18] = [
+pub const BROKEN: [Broken; 22] = [
     Broken {
         name: "fetch-not-weakened",
         says: "a fetch through wk copies all rights",
@@ -284,6 +310,38 @@ pub const BROKEN: [Broken; 18] = [
         says: "a number that is in no stock can be made by anybody",
         rules: Rules {
             makes: Makes::OwnOrNoStock,
+            ..Rules::DOCUMENT
+        },
+    },
+    Broken {
+        name: "maker-lowest-alive",
+        says: "an allocate records the lowest alive object as the maker",
+        rules: Rules {
+            recorded: Recorded::LowestAlive,
+            ..Rules::DOCUMENT
+        },
+    },
+    Broken {
+        name: "maker-holder-of-actor",
+        says: "an allocate records the lowest object with a capability over its actor as the maker",
+        rules: Rules {
+            recorded: Recorded::HolderOfActor,
+            ..Rules::DOCUMENT
+        },
+    },
+    Broken {
+        name: "maker-goes-when-it-dies",
+        says: "what a destroyed object made has 64 as its maker",
+        rules: Rules {
+            makers: Makers::GoWithMaker,
+            ..Rules::DOCUMENT
+        },
+    },
+    Broken {
+        name: "maker-taken-by-reader",
+        says: "a read leaves its actor as the maker of what it reads",
+        rules: Rules {
+            makers: Makers::TakenByReader,
             ..Rules::DOCUMENT
         },
     },

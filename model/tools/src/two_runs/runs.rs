@@ -36,7 +36,7 @@ pub enum Difference {
     Replies(u8, u8),
     /// The clean objects.
     Clean(u64, u64),
-    /// The record or the slots of this clean object.
+    /// The record of this clean object: a field, a slot or the maker.
     Object(u8),
 }
 
@@ -112,7 +112,8 @@ impl Run {
         held.any(|&(_, target)| set::contains(self.clean, target))
     }
 
-    fn actor(&self, n: u8) -> Actor {
+    /// Who a number is by now.
+    pub fn actor(&self, n: u8) -> Actor {
         if usize::from(n) >= OBJECTS {
             Actor::NoNumber
         } else if set::contains(self.clean, n) {
@@ -197,7 +198,7 @@ impl TwoRuns {
         self.compare_clean()
     }
 
-    /// The same objects clean, and every clean object with the same record and slots.
+    /// The same objects clean, and every clean object with the same record, its slots and its maker included.
     fn compare_clean(&self) -> Result<(), Difference> {
         let (first, second) = (&self.first, &self.second);
         if first.clean != second.clean {

@@ -6,7 +6,7 @@ use super::runs::{Difference, Move, Start, TwoRuns};
 use super::trial::Case;
 use yavrinks_model::set;
 use yavrinks_model::step::Request;
-use yavrinks_model::table::{Capability, Record, Table, OBJECTS, SLOTS};
+use yavrinks_model::table::{Capability, Record, Table, NO_MAKER, OBJECTS, SLOTS};
 
 /// The case with nothing left that it can do without, one thing at a time.
 pub fn shrink(rules: &Rules, case: &Case) -> Case {
@@ -31,6 +31,7 @@ fn measure(case: &Case) -> usize {
         let of_record = |record: &Record| {
             usize::from(record.is_born())
                 + usize::from(record.word != 0)
+                + usize::from(record.maker != NO_MAKER)
                 + record.stock.count_ones() as usize
                 + record.capabilities().count()
         };
@@ -143,10 +144,13 @@ fn simplify_object(rules: &Rules, case: &mut Case, n: u8) {
     }
 }
 
-/// Empties word, stock and slots of number n, each by itself.
+/// Empties word, maker, stock and slots of number n, each by itself.
 fn simplify_record(rules: &Rules, case: &mut Case, tables: Tables, n: u8) {
     attempt(rules, case, |start, _| {
         change_record(start, tables, n, |record| record.word = 0);
+    });
+    attempt(rules, case, |start, _| {
+        change_record(start, tables, n, |record| record.maker = NO_MAKER);
     });
     for m in 0..OBJECTS as u8 {
         attempt(rules, case, |start, _| {

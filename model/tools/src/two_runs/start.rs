@@ -1,15 +1,20 @@
 //! Random pairs of start tables: equal on every non-member, different in what the members hold.
 //! Most are arranged so that some objects stay clean, others are reached by the members, and a
 //! few capabilities are out of place, as a broken rule needs. In most, members hold wk alone over objects
-//! that stay clean, and no entry says so: in one of the tables, or in both.
+//! that stay clean, and no entry says so: in one of the tables, or in both. Many objects have a maker, whichever part
+//! that plays.
 
 use super::runs::Start;
-use crate::generate::{born_non_members, confinement_case, ConfinementCase};
+use crate::generate::{
+    any_maker, born_non_members, confinement_case, numbers_where, ConfinementCase,
+};
 use crate::rng::Rng;
 use yavrinks_model::confinement::{passes, Entry, MAX_ENTRIES};
 use yavrinks_model::set;
 use yavrinks_model::table::{Capability, Record, Table};
-use yavrinks_model::table::{ACTIVE, ALIVE, ALL_RIGHTS, DEAD, PASSIVE, RD, SLOTS, UNBORN, WK};
+use yavrinks_model::table::{
+    ACTIVE, ALIVE, ALL_RIGHTS, DEAD, NO_MAKER, NO_SLOTS, PASSIVE, RD, SLOTS, UNBORN, WK,
+};
 
 /// A pair of start tables. The test accepts both, unless a non-member names a member or a member holds
 /// something that does not pass.
@@ -119,11 +124,23 @@ pub fn arranged_case(rng: &mut Rng) -> ConfinementCase {
     share_stocks(rng, &parts, &mut table);
     let mut list = draw_list(rng, &parts);
     put_out_of_place(rng, &parts, &mut table, &mut list);
+    let born = numbers_where(&table, Record::is_born);
+    for n in parts.non_members() {
+        table.record_mut(n).maker = maybe_maker(rng, n, &born);
+    }
     fill_members(rng, &mut table, members, &list);
     ConfinementCase {
         table,
         members,
         list,
+    }
+}
+
+/// A maker for one object in two.
+fn maybe_maker(rng: &mut Rng, n: u8, born: &[u8]) -> u8 {
+    match rng.percent(50) {
+        true => any_maker(rng, n, born),
+        false => NO_MAKER,
     }
 }
 
@@ -244,18 +261,21 @@ fn put_anywhere(rng: &mut Rng, table: &mut Table, holders: &[u8], targets: &[u8]
     }
 }
 
-/// Draws anew all that the members hold: kinds, words, stocks and slots. Nothing else changes. In every
+/// Draws anew all that the members hold, and their kinds, words and makers. Nothing else changes. In every
 /// third table no wk is put in beside what is listed, so that it is often in one of two tables alone.
 fn fill_members(rng: &mut Rng, table: &mut Table, members: u64, list: &[Entry]) {
     let numbers: Vec<u8> = set::numbers(members).collect();
     let outside = born_non_members(table, members);
+    let born = numbers_where(table, Record::is_born);
     let weak_percent = rng.pick(&[0, 30, 60]).unwrap_or(0);
     for &member in &numbers {
         *table.record_mut(member) = Record {
             status: ALIVE,
             kind: if rng.percent(85) { ACTIVE } else { PASSIVE },
             word: rng.between(0, 9) as u32,
-            ..Record::UNBORN
+            stock: 0,
+            slots: NO_SLOTS,
+            maker: maybe_maker(rng, member, &born),
         };
         for k in 0..SLOTS {
             table.record_mut(member).slots[k] = if rng.percent(60) {

@@ -1,11 +1,12 @@
-//! One request under given rules. Where a copy lands, which numbers can be made and what a destroyed object
-//! keeps is worked here, since the rules can break it; all else is the model's.
+//! One request under given rules. Where a copy lands, which numbers can be made, who is recorded as a maker and what
+//! a destroyed object keeps is worked here, since the rules can break it; all else is the model's.
 
-use super::rules::{Destroyed, Empty, Makes, Rules, Weakening};
+use super::rules::{Destroyed, Empty, Makers, Makes, Recorded, Rules, Weakening};
 use crate::copies::{landed_by, Copied};
+use crate::generate::numbers_where;
 use yavrinks_model::set;
 use yavrinks_model::step::{self, weaken, Request};
-use yavrinks_model::table::{Capability, Table, OBJECTS, RD, UNBORN, WK};
+use yavrinks_model::table::{Capability, Record, Table, NO_MAKER, OBJECTS, RD, UNBORN, WK};
 
 impl Weakening {
     fn of(self, found: Capability) -> Capability {
@@ -55,6 +56,27 @@ impl Makes {
     }
 }
 
+impl Recorded {
+    /// The maker of what the actor makes.
+    fn maker(self, before: &Table, actor: u8) -> u8 {
+        let names_actor = |record: &Record| {
+            let mut held = record.capabilities();
+            held.any(|held| held.target == actor)
+        };
+        let lowest = match self {
+            Recorded::Actor => None,
+            Recorded::LowestAlive => numbers_where(before, Record::is_alive).first().copied(),
+            Recorded::HolderOfActor => numbers_where(before, names_actor).first().copied(),
+        };
+        lowest.unwrap_or(actor)
+    }
+}
+
+/// The target of an actor's slot.
+fn target_of(before: &Table, actor: u8, t: u8) -> u8 {
+    before.record(actor).slots[usize::from(t)].target
+}
+
 impl Rules {
     /// One request on a table lent to be changed, with its reply.
     pub fn step_in_place(&self, table: &mut Table, request: &Request) -> u8 {
@@ -68,6 +90,7 @@ impl Rules {
         if reply == 0 {
             self.copy_anew(&before, table, request);
             self.keep_slots(&before, table, request);
+            self.record_makers(&before, table, request);
         } else {
             *table = before;
         }
@@ -96,8 +119,26 @@ impl Rules {
     fn keep_slots(&self, before: &Table, table: &mut Table, request: &Request) {
         if let (Destroyed::KindAndSlots, Request::Destroy { actor, t }) = (self.destroyed, request)
         {
-            let target = before.record(*actor).slots[usize::from(*t)].target;
+            let target = target_of(before, *actor, *t);
             table.record_mut(target).slots = before.record(target).slots;
+        }
+    }
+
+    /// Records makers by these rules.
+    fn record_makers(&self, before: &Table, table: &mut Table, request: &Request) {
+        match (self.makers, request) {
+            (_, Request::Allocate { actor, n, .. }) => {
+                table.record_mut(*n).maker = self.recorded.maker(before, *actor);
+            }
+            (Makers::GoWithMaker, Request::Destroy { actor, t }) => {
+                let gone = target_of(before, *actor, *t);
+                let made = table.records.iter_mut().filter(|one| one.maker == gone);
+                made.for_each(|record| record.maker = NO_MAKER);
+            }
+            (Makers::TakenByReader, Request::Read { actor, t }) => {
+                table.record_mut(target_of(before, *actor, *t)).maker = *actor;
+            }
+            _ => {}
         }
     }
 

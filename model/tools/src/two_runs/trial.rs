@@ -4,10 +4,11 @@ use super::requests::{clean_request, other_request};
 use super::rules::Rules;
 use super::runs::{Difference, Move, Run, Start, TwoRuns};
 use super::start::draw_start;
-use super::tally::Tally;
+use super::tally::{Actor, Tally};
 use crate::progress::Progress;
 use crate::rng::Rng;
 use yavrinks_model::set;
+use yavrinks_model::table::NO_MAKER;
 
 /// A pair of runs that breaks the claim.
 #[derive(Clone, Debug)]
@@ -39,6 +40,12 @@ pub struct Trial {
     pub empty_in_one: u64,
     pub clean_at_start: u64,
     pub made_clean: u64,
+    /// Clean objects at the end whose maker is clean, a member, or another.
+    pub made_by_clean: u64,
+    pub made_by_members: u64,
+    pub made_by_others: u64,
+    /// Those whose maker is dead in one of the runs and not in the other.
+    pub maker_dead_in_one: u64,
     pub found: Option<Case>,
 }
 
@@ -75,9 +82,25 @@ impl Trial {
             let at_start = drawn.start.first.is_born(n);
             self.clean_at_start += u64::from(at_start);
             self.made_clean += u64::from(!at_start);
+            self.count_maker(runs, n);
         }
         self.tally.add(&runs.first.tally);
         self.tally.add(&runs.second.tally);
+    }
+
+    /// Counts a clean object, which has the same record in both runs, by its maker.
+    fn count_maker(&mut self, runs: &TwoRuns, n: u8) {
+        let maker = runs.first.table.record(n).maker;
+        if maker == NO_MAKER {
+            return;
+        }
+        match runs.first.actor(maker) {
+            Actor::Clean => self.made_by_clean += 1,
+            Actor::Member => self.made_by_members += 1,
+            _ => self.made_by_others += 1,
+        }
+        let alive = [&runs.first, &runs.second].map(|run| run.table.record(maker).is_alive());
+        self.maker_dead_in_one += u64::from(alive[0] != alive[1]);
     }
 
     fn count_unlisted(&mut self, runs: &TwoRuns) {

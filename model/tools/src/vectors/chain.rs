@@ -10,6 +10,9 @@ use yavrinks_model::table::Table;
 /// How many requests the chain has.
 const LENGTH: usize = 2000;
 
+/// The seed of the chain. A test asks for ten of some kinds of empty copies, and not every seed gives that.
+const SEED: u64 = 0xC4A1F;
+
 /// The table at the start and the requests.
 pub struct Chain {
     pub start: Table,
@@ -18,7 +21,7 @@ pub struct Chain {
 
 /// The chain. It starts with few objects and large stocks.
 pub fn chain() -> Chain {
-    let mut rng = Rng::new(0xC4A14);
+    let mut rng = Rng::new(SEED);
     let shape = Shape {
         born: 12,
         dead_percent: 0,
@@ -26,6 +29,7 @@ pub fn chain() -> Chain {
         stocked_percent: 95,
         filled_percent: 70,
         weak_percent: 10,
+        made_percent: 40,
     };
     let start = sound_table(&mut rng, &shape);
     let mut table = start.clone();

@@ -13,7 +13,7 @@ pub fn of_bytes(bytes: &[u8]) -> u64 {
     })
 }
 
-/// The digest of a table: status, kind, word, stock and slots of each record in number order.
+/// The digest of a table: status, kind, word, stock, slots and maker of each record in number order.
 pub fn of_table(table: &Table) -> u64 {
     of_bytes(&super::layout::table(table))
 }

@@ -26,6 +26,7 @@ pub fn edges() -> Chain {
         stocked_percent: 100,
         filled_percent: 80,
         weak_percent: 5,
+        made_percent: 40,
     };
     let start = sound_table(&mut rng, &shape);
     let mut requests = Requests {

@@ -3,7 +3,7 @@
 
 use crate::rng::Rng;
 use yavrinks_model::confinement::{Entry, MAX_ENTRIES};
-use yavrinks_model::image::{encode, HEAD_LENGTH};
+use yavrinks_model::image::{encode, Version, HEAD_LENGTH};
 use yavrinks_model::step::{Pair, Request, MAX_PAIRS};
 use yavrinks_model::table::Table;
 
@@ -14,9 +14,9 @@ const WORD_AT: usize = 8;
 const PART_AT: usize = 12;
 const LIST_AT: usize = 20;
 
-/// The records of a table, sound or not: an image without its head.
+/// The records of a table, sound or not: an image of version 2 without its head.
 pub fn table(table: &Table) -> Vec<u8> {
-    encode(table).split_off(HEAD_LENGTH)
+    encode(Version::Two, table).split_off(HEAD_LENGTH)
 }
 
 /// Random bytes.

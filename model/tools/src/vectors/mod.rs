@@ -23,13 +23,13 @@ use crate::progress::Progress;
 pub use chain::{chain, Chain};
 pub use edges::edges;
 pub use empty_copies::{counts_text, in_chain, in_steps};
-pub use images::{image_cases, write_cases, ImageCase, WriteCase};
+pub use images::{image_cases, write_cases, ImageCase};
 pub use imports::import_cases;
 pub use links::{test_reach, test_rounds};
 pub use relations::access_cases;
 pub use rounds::rounds_cases;
 pub use shown::shown_cases;
-pub use steps::step_cases;
+pub use steps::{shared_step_cases, step_cases};
 pub use verdicts::test_cases;
 
 /// One file of cases, with the lines that the program is to print for them.

@@ -19,11 +19,12 @@ pub fn access_cases() -> Vec<Table> {
                 stocked_percent: 0,
                 filled_percent,
                 weak_percent,
+                made_percent: 50,
             };
             tables.push(sound_table(&mut rng, &shape));
         }
     }
-    tables.extend((0..30).map(|_| any_sound_table(&mut rng)));
+    tables.extend((0..26).map(|_| any_sound_table(&mut rng)));
     for _ in 0..8 {
         let mut table = any_sound_table(&mut rng);
         any_damage(&mut rng, &mut table);

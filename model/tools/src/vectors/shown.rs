@@ -15,14 +15,14 @@ const CELLS: usize = 63;
 
 /// How often each answer is aimed at.
 const AIMS: [(u8, usize); 8] = [
-    (0, 52),
-    (1, 14),
-    (10, 14),
-    (11, 14),
-    (12, 14),
-    (13, 14),
-    (18, 32),
-    (19, 24),
+    (0, 46),
+    (1, 11),
+    (10, 11),
+    (11, 11),
+    (12, 11),
+    (13, 11),
+    (18, 26),
+    (19, 20),
 ];
 
 /// The layers of long and of branching tests, each made twice.

@@ -1,22 +1,25 @@
-//! Requests, each on a table of its own: the shared steps, every kind of empty copy, every reply of every
+//! Requests, each on a table of its own: shared steps, every kind of empty copy, makers, every reply of every
 //! request, lists of all lengths, and codes that mean nothing.
 
 use super::{digest, layout, Part};
-use crate::empty_kinds::EmptyKind;
-use crate::generate::{can_meet, empty_copy_case, step_case, StepCase};
+use crate::empty_kinds::{empty_kinds, EmptyKind};
+use crate::generate::{allocate_by_made, can_meet, destroy_of_made, empty_copy_case};
+use crate::generate::{step_case, StepCase};
 use crate::rng::Rng;
-use crate::shared::shared_steps;
-use yavrinks_model::step::{step, Pair, Request, MAX_PAIRS};
+use crate::shared::{shared_steps, shared_steps_with_makers};
+use yavrinks_model::step::{step, Pair, Request};
 use yavrinks_model::table::{Capability, ALL_RIGHTS};
 
 /// Codes that are not 1 to 8.
 const NONSENSE: [u8; 6] = [0, 9, 10, 64, 128, 255];
-/// Lengths of lists, up to what a count of one byte can say.
-const LENGTHS: [usize; 12] = [0, 1, 2, 3, 4, 4, 5, 6, 8, 100, 254, 255];
+/// Lengths of lists, up to what a count of one byte can say. The edges have all others.
+const LENGTHS: [usize; 7] = [0, 1, 2, 3, 4, 5, 255];
+/// Lengths of lists of sends to the actor itself, of which two pairs can be told apart at least.
+const TO_ITSELF: [usize; 12] = [2, 3, 4, 4, 4, 4, 4, 4, 4, 4, 4, 4];
 
 /// How many cases are done at least, and how many get each refusal, of each request.
 const DONE: usize = 16;
-const REFUSED: usize = 5;
+const REFUSED: usize = 4;
 /// How many of either are random at least.
 const RANDOM: usize = 1;
 
@@ -32,21 +35,35 @@ fn times(kind: EmptyKind) -> usize {
     }
 }
 
-/// The shared steps, empty copies, lists and codes that mean nothing; then random cases until every request
-/// has every reply often enough.
+/// The shared steps of 2.7, and those of 2.4 where a slot keeps what it held: of the others there, which have no
+/// makers, data leaves no room for more.
+pub fn shared_step_cases() -> Vec<StepCase> {
+    let of_2_4 = shared_steps().into_iter().map(|one| one.step);
+    let keeping = of_2_4.filter(|case| {
+        let done = step(&case.table, &case.request).0 == 0;
+        done && empty_kinds(&case.table, &case.request).contains(&EmptyKind::Store)
+    });
+    let of_2_7 = shared_steps_with_makers().into_iter().map(|one| one.step);
+    of_2_7.chain(keeping).collect()
+}
+
+/// The shared steps, empty copies, steps that have to do with makers, lists and codes that mean nothing; then random
+/// cases until every request has every reply often enough.
 pub fn step_cases() -> Vec<StepCase> {
     let mut rng = Rng::new(0x57E95);
-    let mut cases: Vec<StepCase> = shared_steps().into_iter().map(|one| one.step).collect();
+    let mut cases = shared_step_cases();
     for kind in EmptyKind::ALL {
         cases.extend((0..times(kind)).map(|_| empty_copy_case(&mut rng, kind)));
     }
+    cases.extend((0..3).map(|_| allocate_by_made(&mut rng)));
+    cases.extend((0..6).map(|_| destroy_of_made(&mut rng)));
     for length in LENGTHS {
         cases.push(with_list(&mut rng, 6, length));
         cases.push(with_list(&mut rng, 7, length));
-        cases.push(send_to_itself(&mut rng, length.min(MAX_PAIRS)));
     }
+    cases.extend(TO_ITSELF.map(|length| send_to_itself(&mut rng, length)));
     for code in NONSENSE {
-        for aim in [1, 2, 2] {
+        for aim in [1, 2] {
             cases.push(step_case(&mut rng, code, aim));
         }
     }

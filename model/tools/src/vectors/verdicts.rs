@@ -5,7 +5,7 @@ use super::rounds::rounds_cases;
 use super::{layout, Part};
 use crate::generate::{any_damage, confinement_case, ConfinementCase};
 use crate::rng::Rng;
-use crate::shared::shared_tests;
+use crate::shared::{shared_tests, shared_tests_with_makers};
 use yavrinks_model::confinement::{confinement_test, Entry, Tested};
 use yavrinks_model::set;
 use yavrinks_model::table::{Capability, Record, Table};
@@ -17,7 +17,7 @@ use yavrinks_model::table::{
 const LONG: [usize; 6] = [9, 10, 16, 100, 254, 255];
 
 /// How often each verdict is aimed at. Cases made by hand and shared ones add to all of them.
-const AIMS: [(u8, usize); 6] = [(0, 26), (1, 33), (10, 17), (11, 6), (12, 24), (13, 15)];
+const AIMS: [(u8, usize); 6] = [(0, 4), (1, 33), (10, 1), (11, 1), (12, 1), (13, 4)];
 
 /// Every verdict, the shared tests, lists of all lengths, the first and the last of numbers and slots, wk in
 /// what members hold, then tests of many rounds.
@@ -31,7 +31,8 @@ pub fn test_cases() -> Vec<ConfinementCase> {
     for (aim, times) in AIMS {
         cases.extend((0..times).map(|_| confinement_case(&mut rng, aim)));
     }
-    cases.extend(shared_tests().into_iter().map(|shared| shared.test));
+    let shared = shared_tests().into_iter().chain(shared_tests_with_makers());
+    cases.extend(shared.map(|shared| shared.test));
     cases.extend((0..=8).map(|length| with_list(&mut rng, length)));
     for length in LONG {
         cases.extend(long_lists(&mut rng, length));
@@ -44,7 +45,7 @@ pub fn test_cases() -> Vec<ConfinementCase> {
     cases.extend(all_rights_unlisted());
     cases.extend(only_wk_unlisted());
     cases.extend(wk_beside_entries());
-    cases.extend([1, 2, 3, 7].map(dozens_of_wk));
+    cases.extend([1, 2, 3, 4, 5, 7].map(dozens_of_wk));
     cases.extend(dozens_with_an_offence());
     cases.extend([ACTIVE, PASSIVE].map(wk_over_a_member));
     cases.extend(rounds_cases());
@@ -167,24 +168,33 @@ fn all_rights_unlisted() -> Vec<ConfinementCase> {
         .collect()
 }
 
-/// Every rights value that has wk and others, with all of it listed but wk.
+/// Every rights value that has wk and others, with all of it listed but wk; for some, wk is listed for another
+/// target.
 fn only_wk_unlisted() -> Vec<ConfinementCase> {
-    (1..=ALL_RIGHTS)
-        .filter(|rights| rights & WK != 0 && rights & !WK != 0)
-        .map(|rights| case_of_holder(Capability::new(31, rights), &[(31, rights & !WK)]))
-        .collect()
+    let with_others = (1..=ALL_RIGHTS).filter(|rights| rights & WK != 0 && rights & !WK != 0);
+    let mut cases = Vec::new();
+    for rights in with_others {
+        let (held, listed) = (Capability::new(31, rights), (31, rights & !WK));
+        cases.push(case_of_holder(held, &[listed]));
+        if rights.count_ones() != 3 {
+            cases.push(case_of_holder(held, &[(29, WK), listed]));
+        }
+    }
+    cases
 }
 
-/// wk alone over a target that an entry names, with wk or without, and over one that no entry names; then
-/// beside a second capability over the same target, listed and not.
+/// wk alone over a target that an entry names, with wk or without, and over one that no entry names, where the list
+/// is full too; then beside a second capability over the same target, listed and not.
 fn wk_beside_entries() -> Vec<ConfinementCase> {
     let weak = Capability::new(31, WK);
-    let lists: [&[Entry]; 5] = [
+    let lists: [&[Entry]; 7] = [
         &[(31, WK)],
         &[(31, WR)],
         &[(31, WR), (31, WK)],
         &[(29, WR)],
         &[(29, WK)],
+        &[(29, WK); 8],
+        &[(29, WR); 8],
     ];
     let mut cases: Vec<ConfinementCase> = lists
         .into_iter()

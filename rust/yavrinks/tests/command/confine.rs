@@ -59,9 +59,37 @@ fn images_that_do_not_read_are_refused() {
     let mut length = example_1();
     length[1] = 0x82;
     assert_answer(&length, "refused 14\n", 1);
+    // The version byte is looked at before the length field.
+    length[2] = 2;
+    assert_answer(&length, "refused 15\n", 1);
     let mut unsound = example_1();
     unsound[3] = 3; // object 0's status
     assert_answer(&unsound, "refused 1\n", 1);
+}
+
+/// Document 02, 2.7: "`confine` goes on taking version 1 and prints `refused 15` at any other version byte." Version 2
+/// is another one, in an image of 1,923 bytes with either length field; a whole image of version 2 is 64 bytes longer,
+/// and its input gets 17, unless what stands at the count's place makes the length right.
+#[test]
+fn any_other_version_is_refused_by_15() {
+    for version in [0, 2, 3, 128, 255] {
+        for field in [[0x07, 0x83], [0x07, 0xc3], [0, 0]] {
+            let mut image = image_k();
+            image[..2].copy_from_slice(&field);
+            image[2] = version;
+            assert_answer(&input(&image, &[5], &[(1, 2)]), "refused 15\n", 1);
+        }
+    }
+    let mut image = vec![0; 1987];
+    image[..3].copy_from_slice(&[0x07, 0xc3, 0x02]);
+    for record in image[3..].chunks_exact_mut(31) {
+        record[30] = 64;
+    }
+    assert_answer(&input(&image, &[], &[]), "refused 17\n", 1);
+    // 1,987 bytes, eight of members, a count: 1,996 in all, as an input with 32 entries has. The byte at 1,931 counts
+    // them there.
+    image[1931] = 32;
+    assert_answer(&input(&image, &[], &[]), "refused 15\n", 1);
 }
 
 #[test]

@@ -25,6 +25,8 @@ fn help_is_printed_where_it_is_asked_for() {
             "1 for refused",
             "and 2 where",
             "needs no entry",
+            "an image of version 1",
+            "`refused 15` at any version byte but 1",
         ] {
             assert!(printed.contains(told), "{printed}");
         }
@@ -36,7 +38,7 @@ fn the_version_is_the_packages_and_the_librarys() {
     for word in ["--version", "-V"] {
         let output = yavrinks(&[word]).output().expect("the command runs");
         let printed = String::from_utf8(output.stdout).expect("text");
-        assert_eq!(printed, "yavrinks 0.1.0, libcaptable 0.7.0\n");
+        assert_eq!(printed, "yavrinks 0.1.0, libcaptable 0.8.0\n");
         assert_eq!(output.status.code(), Some(0));
     }
 }

@@ -7,14 +7,14 @@ use native.Mathlib.Omega.{arith}
 use lib.ListN.{getD}
 use Rattle.mask.specs.Sets.{has, including}
 use Rattle.mask.proofs.UpTo.{upTo, up-none, up-on, up-off, up-all}
-use Rattle.table.specs.Cells.{isBorn, unbornRecord}
+use Rattle.table.specs.Cells.{isBorn, noRecord}
 use Rattle.access.specs.Answers.{bornOutside}
 use borrow.Author.Needs.{needs}
 use Rattle.access.proofs.start.born_outside.Statement.{statement}
 use Rattle.access.proofs.start.born_outside.Tie as tie
 
 abbrev Inv-loop : tie.InvT-loop
-Inv-loop set records found₀ n₀ found n = (n ≤ 64) × (found ≡ upTo n (λ k. isBorn (getD records k unbornRecord) && not (has k set)))
+Inv-loop set records found₀ n₀ found n = (n ≤ 64) × (found ≡ upTo n (λ k. isBorn (getD records k noRecord) && not (has k set)))
 
 abbrev μ-loop : tie.MeasureT-loop
 μ-loop set records found₀ n₀ found n = 64 - n
@@ -51,7 +51,7 @@ loop-less c = search needs
 
 loop-again : tie.Need-loop-again Inv-loop μ-loop
 loop-again c = let a = c .before .before .before .before .before .before .args in
-    let p : ℕ → Bool = λ k. isBorn (getD (a .t1) k unbornRecord) && not (has k (a .set)) in
+    let p : ℕ → Bool = λ k. isBorn (getD (a .t1) k noRecord) && not (has k (a .set)) in
     let e = ap₂ (λ (x y : Bool). x && not y) (c .before .before .is-born .ensures) (c .before .has .ensures) in (
       omega arith,
       ⊎-elim

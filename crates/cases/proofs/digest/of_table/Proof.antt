@@ -13,17 +13,14 @@ abbrev μ-loop : tie.MeasureT-loop
 loop-holds : tie.Need-loop-holds Inv-loop μ-loop
 loop-holds c = search needs
 
-mul-with-record : tie.Need-mul-with-record Inv-loop μ-loop
-mul-with-record c = search needs
+mul-with-object : tie.Need-mul-with-object Inv-loop μ-loop
+mul-with-object c = search needs
 
-array-copy-out-with-record : tie.Need-array-copy-out-with-record Inv-loop μ-loop
-array-copy-out-with-record c = search needs
+array-copy-out-with-object : tie.Need-array-copy-out-with-object Inv-loop μ-loop
+array-copy-out-with-object c = search needs
 
-with-record-requires : tie.Need-with-record-requires Inv-loop μ-loop
-with-record-requires c κs = search needs
-
-with-slots-requires : tie.Need-with-slots-requires Inv-loop μ-loop
-with-slots-requires c κs = search needs
+with-object-requires : tie.Need-with-object-requires Inv-loop μ-loop
+with-object-requires c κs = search needs
 
 add-n : tie.Need-add-n Inv-loop μ-loop
 add-n c = search needs
@@ -44,10 +41,9 @@ of-table-spec =
     Inv-loop
     μ-loop
     loop-holds
-    mul-with-record
-    array-copy-out-with-record
-    with-record-requires
-    with-slots-requires
+    mul-with-object
+    array-copy-out-with-object
+    with-object-requires
     add-n
     loop-less
     loop-again
