@@ -5,17 +5,15 @@ use mathlib.Core.Bool.{true}
 use mathlib.Core.List.{List, [], _∷_}
 use Prim.Native.Nat.{ℕ, zero, suc, _+_, _*_, _/_, _%_, _^_, _≤_, _<_}
 use native.Mathlib.Omega.{arith}
-use lib.Dec.{ltb}
 use lib.Bits.{bitOr, or-lt}
-use lib.ListN.{length, getD, set, length-set, List·getD-eq-default}
-use lib.Seq.{getD-set-same, getD-set-other}
-use borrow.Author.Tests.{ltb-true, ltb-false}
+use lib.ListN.{length, getD, set, length-set}
+use lib.Seq.{getD-set-same}
 use Rattle.mask.specs.Sets.{has}
-use Rattle.mask.proofs.Tests.{byCases, byEq, or-cases, or-left, or-right, bool-ext}
+use Rattle.mask.proofs.Tests.{byCases, or-cases, or-left, or-right, bool-ext}
 use Rattle.mask.proofs.Bits.{bits-ext}
 use Rattle.mask.proofs.Words.{has-or}
 use Rattle.table.specs.Lists.{tabulate}
-use Rattle.table.proofs.Lists.{as-tabulate}
+use Rattle.table.proofs.Lists.{put-any, as-tabulate}
 use Rattle.relation.specs.Relation.{Right, rd, wr, wk, tx, bitAt, Holding, Can, holds, self, reads, weak-rd, weak-wk, writes, sends, rightAt}
 use Rattle.relation.specs.Closure.{rowOf}
 use Rattle.relation.specs.Exactness.{Low}
@@ -55,20 +53,12 @@ kept-trans p q = record { long = q .long ∙ p .long; fits = λ h. q .fits (p .f
 pub full-kept : {r t : List ℕ} → Full r → Kept r t → Full t
 full-kept f k = record { long = k .long ∙ f .long; fits = k .fits (f .fits) }
 
--- a fact of each word after a store of a word that has it
-pub at-set : (P : ℕ → Type 0) (r : List ℕ) (d v i : ℕ) → (i ≡ d → P v) → P (getD r i 0) → P (getD (set r d v) i 0)
-at-set P r d v i new old = byEq i d
-    (λ e. byCases (ltb d (length r))
-    (λ h. subst⁻¹ (λ (j : ℕ). P (getD (set r d v) j 0)) e (subst⁻¹ P (getD-set-same r d v 0 (ltb-true d _ h)) (new e)))
-    (λ h. subst⁻¹ P (List·getD-eq-default (set r d v) 0 (omega (arith, length-set r d v, ltb-false d _ h)) ∙ sym (List·getD-eq-default r 0 (omega (arith, ltb-false d _ h)))) old))
-    (λ e. subst⁻¹ P (getD-set-other r d i v 0 e) old)
-
 -- a word joined into another keeps what was there
 pub join-kept : (r : List ℕ) (d w : ℕ) → (((i : ℕ) → getD r i 0 < 2 ^ 64) → w < 2 ^ 64) → Kept r (set r d (bitOr (getD r d 0) w))
 join-kept r d w low = record {
   long = length-set r _ _;
-  fits = λ h i. at-set (λ (a : ℕ). a < 2 ^ 64) r _ _ i (λ q. or-lt 64 _ _ (h _) (low h)) (h i);
-  bits = λ i k a. at-set (λ (m : ℕ). has k m ≡ true) r _ _ i (λ q. has-or k _ _ ∙ or-left (has k (getD r d 0)) _ (rw q at a)) a;
+  fits = λ h i. put-any (λ (a : ℕ). a < 2 ^ 64) r _ i _ 0 (λ q. or-lt 64 _ _ (h _) (low h)) (h i);
+  bits = λ i k a. put-any (λ (m : ℕ). has k m ≡ true) r _ i _ 0 (λ q. has-or k _ _ ∙ or-left (has k (getD r d 0)) _ (rw q at a)) a;
 }
 
 feed-kept : (r : List ℕ) (f : Feed) → Kept r (feed r f)
@@ -90,7 +80,7 @@ pass-kept r (suc k) = kept-trans (pass-kept r k) (all-kept (rules (k / 64) (k % 
 -- words with one more word joined in, of which each number is due
 pub join-derived : (h : Holding) (d : Right) (u w : ℕ) (r : List ℕ) → u < 64 → Derived h r → ((z : ℕ) → z < 64 → has z w ≡ true → Can h d u z)
     → Derived h (set r (place d u) (bitOr (wordAt r d u) w))
-join-derived h d u w r hu ok due b x z hx hz = at-set (λ (m : ℕ). has z m ≡ true → Can h b x z) r (place d u) _ (place b x)
+join-derived h d u w r hu ok due b x z hx hz = put-any (λ (m : ℕ). has z m ≡ true → Can h b x z) r (place d u) (place b x) _ 0
     (λ q a.
     let same : bitAt b ≡ bitAt d = omega arith in
     let at : x ≡ u = omega arith in

@@ -1,20 +1,10 @@
--- A fact of what is read at a place of a list: of the element there, or of the default past the end. For lists that a put, a
--- tabulation or a repeat has made, by induction on the list or its length. Assumes nothing.
-use mathlib.Core.Path.{_≡_, refl, ap}
-use mathlib.Core.List.{List, [], _∷_}
+-- A fact of what is read at a place of a list: of the element there, or of the default past the end. For lists that a
+-- tabulation or a repeat has made, by induction on its length; for one that a put has made see Lists. Assumes nothing.
 use Prim.Native.Nat.{ℕ, zero, suc}
-use lib.ListN.{getD, set, replicate}
+use lib.ListN.{getD, replicate}
 use Rattle.table.specs.Lists.{tabulate}
 
 module _ {A : Type 0} (P : A → Type 0) (d : A) where
-  -- a put past the end changes nothing, so no place has to be within the list
-  pub at-set : (l : List A) (n : ℕ) (a : A) (k : ℕ) → (k ≡ n → P a) → P (getD l k d) → P (getD (set l n a) k d)
-  at-set [] n a k new old = old
-  at-set (x ∷ l) zero a zero new old = new refl
-  at-set (x ∷ l) zero a (suc k) new old = old
-  at-set (x ∷ l) (suc n) a zero new old = old
-  at-set (x ∷ l) (suc n) a (suc k) new old = at-set l n a k (λ e. new (ap suc e)) old
-
   pub at-tabulate : (n : ℕ) (f : ℕ → A) (k : ℕ) → P (f k) → P d → P (getD (tabulate n f) k d)
   unfolding tabulate
   at-tabulate zero f k within past = past

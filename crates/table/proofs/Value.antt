@@ -23,7 +23,8 @@ use Rattle.table.proofs.Record.Laws as R′
 use Rattle.table.proofs.Table as T
 use Rattle.table.proofs.Table.Laws as T′
 use Rattle.table.proofs.Cells.{Sized}
-use Rattle.table.proofs.Places.{at-set, at-replicate}
+use Rattle.table.proofs.Lists.{put-any}
+use Rattle.table.proofs.Places.{at-replicate}
 
 pub records-long : (t : Table) (vs : List Val) → Is T.the-row t vs → length (t .records) ≡ 64
 records-long t vs is = sym (length-map (t .records) _) ∙ LL.owed T.the-type T′.the-laws t vs is .0 .1 .0 .1
@@ -106,8 +107,8 @@ slot-of t z k = slot-value (getD (t .slots) k emptySlot) (z .targets k) (z .righ
 
 pub table-putRecord : (t : Table) (n : ℕ) (r : Record) → IsTable t → RecordValue r → IsTable (putRecord t n r)
 table-putRecord t n r z v = values-are-table (putRecord t n r) (length-set (t .records) n r ∙ z .records) (z .slots)
-    (λ m. at-set RecordValue noRecord (t .records) n r m (λ e. v) (record-of t z m)) (slot-of t z)
+    (λ m. put-any RecordValue (t .records) n m r noRecord (λ e. v) (record-of t z m)) (slot-of t z)
 
 pub table-putSlot : (t : Table) (n j : ℕ) (c : Capability) → IsTable t → SlotValue c → IsTable (putSlot t n j c)
 table-putSlot t n j c z v = values-are-table (putSlot t n j c) (z .records) (length-set (t .slots) (n * 8 + j) c ∙ z .slots)
-    (record-of t z) (λ k. at-set SlotValue emptySlot (t .slots) (n * 8 + j) c k (λ e. v) (slot-of t z k))
+    (record-of t z) (λ k. put-any SlotValue (t .slots) (n * 8 + j) k c emptySlot (λ e. v) (slot-of t z k))
