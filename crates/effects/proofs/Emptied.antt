@@ -8,8 +8,9 @@ use Prim.Native.Nat.{ℕ, zero, suc, _+_, _*_, _≤_, _<_}
 use native.Mathlib.Omega.{arith}
 use lib.Dec.{ltb, eqb}
 use Rattle.mask.proofs.Tests.{byCases, and-false}
+use Rattle.table.specs.declared.Record.{Record}
 use Rattle.table.specs.declared.Table.{Table}
-use Rattle.table.specs.Cells.{emptySlot, noRecord, recordAt, slotAt, stockAt, putRecord, isEmpty, isAlive}
+use Rattle.table.specs.Cells.{emptySlot, noRecord, recordAt, slotAt, putRecord, putSlot, isEmpty, isAlive}
 use Rattle.table.proofs.Lists.{put-there}
 use Rattle.table.proofs.Cells.{record-other, slot-other, slot-put-at}
 use Rattle.requests.specs.declared.Pair.{Pair}
@@ -19,7 +20,7 @@ use Rattle.copies.specs.Copies.{fetched, copyPairs}
 use Rattle.copies.specs.Exactness.{EmptyCopyNothing}
 use Rattle.copies.proofs.Landing.{empty-copy-nothing}
 use Rattle.copies.proofs.Pairs.{copies-empty-none}
-use Rattle.effects.specs.Effects.{answerSlot, clearSlots, withStock, made, died, fullOver, stockLess, sent, allocated, destroyed, effect}
+use Rattle.effects.specs.Effects.{answerSlot, clearSlots, died, fullOver, sent, allocated, destroyed, effect}
 
 -- a copy that comes out empty ------------------------------------------------------------------------
 pub fetch-nothing : (t : Table) (a s i j : ℕ) → isEmpty (fetched (rightsOf t a s) (slotAt t (targetOf t a s) i)) ≡ true → effect t (fetch a s i j) ≡ t
@@ -43,12 +44,17 @@ module _ (t : Table) (m k : ℕ) (full : isEmpty (slotAt t m k) ≡ false) where
   unfolding sent
   sent-full a g w l y = answer-full _ m k (copies-empty-none _ (slotAt t a) g l m k full) g y a
 
-  pub allocated-full : (a n kind part i : ℕ) (l : List Pair) → isEmpty (slotAt (allocated t a n kind part i l) m k) ≡ false
-  unfolding allocated
-  allocated-full a n kind part i l =
-      let born = putRecord (putRecord t a (withStock (recordAt t a) (stockLess n part (stockAt t a)))) n (made a kind part) in
+  -- whatever the actor's record and the new one are
+  made-full : (less new : Record) (a n i : ℕ) (l : List Pair)
+      → isEmpty (slotAt (putSlot (copyPairs (putRecord (putRecord t a less) n new) (slotAt t a) n l) a i (fullOver n)) m k) ≡ false
+  made-full less new a n i l =
+      let born = putRecord (putRecord t a less) n new in
       slot-put-at (λ x. isEmpty x ≡ false) (copyPairs born (slotAt t a) n l) a i m k (fullOver n) (λ q. and-false (eqb n 0))
       (copies-empty-none born (slotAt t a) n l m k full)
+
+  pub allocated-full : (a n kind part i : ℕ) (l : List Pair) → isEmpty (slotAt (allocated t a n kind part i l) m k) ≡ false
+  unfolding allocated
+  allocated-full a n kind part i l = made-full _ _ a n i l
 
 -- revoke ---------------------------------------------------------------------------------------------------
 pub revoked-empty : (t : Table) (a s j : ℕ) → slotAt (effect t (revoke a s j)) (targetOf t a s) j ≡ emptySlot
