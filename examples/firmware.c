@@ -1,15 +1,16 @@
 /*
  * A small main loop over the capability table: load an image, serve the mailboxes, say who made an object, show that
- * a copy of nothing clears no channel, test a newly loaded subsystem and say how it gets at an object, test a routine
- * that reads more objects than a list has room for, judge a table of an older rig by the same test, write the image
- * back. An image may be of either version; what is written is of version 2, for a maker has no place in version 1.
+ * a copy of nothing clears no channel, test a newly loaded subsystem and say how it gets at an object, use the number
+ * of an object again that is not needed any more, test a routine that reads more objects than a list has room for,
+ * judge a table of an older rig by the same test, write the image back. An image may be of either version; what is
+ * written is of version 2, for a maker has no place in version 1.
  *
  *     firmware IMAGE NEW_IMAGE
  *
  * Each object has a mailbox, and its routine puts requests there. Whose mailbox it is, is all that is known
  * of who asks; what the routine wrote of that is not believed. The requests are those of document 01's
- * examples 6, 7, 9 and 10 on its Table K, one that lies about its actor, one that is no request at all, and
- * copies of empty slots.
+ * examples 6, 7, 9 and 10 on its Table K, one that lies about its actor, one that is no request at all, copies
+ * of empty slots, and those by which a number is used again.
  * Exit status: 0, or 1 when a file cannot be used, the table is refused, a test is not answered as it should
  * be, or the library is of another version.
  */
@@ -84,19 +85,32 @@ static size_t take(uint8_t owner, uint8_t *request)
     return length;
 }
 
-/* Serves every mailbox once. */
+/* Whom a request destroys or reclaims, if it is done: the target of its slot t. CAPTABLE_OBJECTS for nobody. */
+static size_t ended_by(const uint8_t *request, size_t length)
+{
+    if (length != 3 || (request[0] != CAPTABLE_DESTROY && request[0] != CAPTABLE_RECLAIM) ||
+        request[2] >= CAPTABLE_SLOTS)
+        return CAPTABLE_OBJECTS;
+    return captable_slot(&table, request[1], request[2]).target;
+}
+
+/* Serves every mailbox once. What an object leaves in its mailbox is thrown away when it is destroyed and when its
+ * number is reclaimed: whoever comes to have the number did not ask for that. */
 static void serve(void)
 {
     uint8_t request[CAPTABLE_REQUEST_BYTES];
     uint8_t owner, number;
-    size_t length;
+    size_t length, ended;
 
     for (owner = 0; owner < CAPTABLE_OBJECTS; owner++) {
         length = take(owner, request);
         if (length == 0)
             continue;
+        ended = ended_by(request, length);
         number = captable_step(&table, request, length);
         printf("%s: %u, %s\n", mailboxes[owner].what, number, captable_reason(number));
+        if (number == CAPTABLE_DONE && ended < CAPTABLE_OBJECTS)
+            mailboxes[ended].length = 0;
     }
 }
 
@@ -147,6 +161,59 @@ static void copy_nothing(void)
     box[5].length = captable_put_revoke(box[5].bytes, 5, 7, 2);
     serve();
     show_slot(10, 2);
+}
+
+/* The numbers that an object may make objects of, for the technician. */
+static void show_stock(size_t n)
+{
+    unsigned k;
+
+    printf("the stock of %u is", (unsigned)n);
+    for (k = 0; k < CAPTABLE_OBJECTS; k++)
+        if (table.records[n].stock >> k & 1)
+            printf(" %u", k);
+    printf("\n");
+}
+
+/* 10 is not needed any more. 5 destroys it, and its number is dead until 5 reclaims it, which it cannot do before: then
+ * the number and what 10 had in its stock are in that of 5. 1 and 0 have come to hold capabilities over 10; they lose
+ * them and are not told, and 5 is not told of them. What 5 makes of the number is another object, which they have no
+ * right over; nor is what 10 asked for last, and too late, served in its name. */
+static void use_again(void)
+{
+    struct mailbox *box = mailboxes;
+
+    box[5].what = "5 stores its slot 7 into slot 4 of 1";
+    box[5].length = captable_put_store(box[5].bytes, 5, 0, 7, 4);
+    serve();
+    box[0].what = "0 fetches 1's slot 4 into its slot 1";
+    box[0].length = captable_put_fetch(box[0].bytes, 0, 0, 4, 1);
+    box[5].what = "5 reclaims through slot 7";
+    box[5].length = captable_put_reclaim(box[5].bytes, 5, 7);
+    serve();
+    show_slot(0, 1);
+    show_slot(1, 4);
+    box[5].what = "5 destroys through slot 7";
+    box[5].length = captable_put_destroy(box[5].bytes, 5, 7);
+    box[10].what = "10 reads through slot 0";
+    box[10].length = captable_put_read(box[10].bytes, 10, 0);
+    serve();
+    box[0].what = "0 reads through slot 1";
+    box[0].length = captable_put_read(box[0].bytes, 0, 1);
+    box[5].what = "5 reclaims through slot 7";
+    box[5].length = captable_put_reclaim(box[5].bytes, 5, 7);
+    serve();
+    show_slot(0, 1);
+    show_slot(1, 4);
+    show_slot(5, 7);
+    show_stock(5);
+    box[5].what = "5 allocates 10 again";
+    box[5].length = captable_put_allocate(box[5].bytes, 5, 10, CAPTABLE_ACTIVE, 0, 7, NULL, 0);
+    serve();
+    box[0].what = "0 reads through slot 1";
+    box[0].length = captable_put_read(box[0].bytes, 0, 1);
+    serve();
+    show_maker(10);
 }
 
 /* Reads the image into the table. */
@@ -311,6 +378,7 @@ int main(int count, char **words)
     copy_nothing();
     if (admit("subsystem", &table, members, list, sizeof list) != CAPTABLE_DONE || explain(2) != 0)
         return 1;
+    use_again();
     if (read_materials() != 0 || bring_in() != 0)
         return 1;
     return save(words[2]);

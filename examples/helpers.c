@@ -1,7 +1,7 @@
 /*
- * What the header itself gives: reasons, stamping, slots, version, sizes, the bytes of requests; and what a table
- * begins with. Each is held to what the documents say, written out here. Exit status: 0 if all is as it should be, 1
- * if not.
+ * What the header itself gives: reasons, stamping, slots, version, sizes, the bytes of requests; what a table begins
+ * with, and what becomes of a number that is reclaimed. Each is held to what the documents say, written out here. Exit
+ * status: 0 if all is as it should be, 1 if not.
  */
 #include "captable.h"
 
@@ -18,7 +18,7 @@ static void check(int holds, const char *what)
     }
 }
 
-/* One reason for each of 0 to 23, each other than the rest, and one for all numbers that are no answer. */
+/* One reason for each of 0 to 24, each other than the rest, and one for all numbers that are no answer. */
 static void reasons(void)
 {
     unsigned a, b;
@@ -26,16 +26,17 @@ static void reasons(void)
     for (a = 0; a <= 255; a++) {
         const char *reason = captable_reason((uint8_t)a);
         check(reason != NULL && strlen(reason) > 3, "every number has a reason");
-        if (a > 24)
-            check(strcmp(reason, captable_reason(24)) == 0, "24 and above are no answers");
+        if (a > 25)
+            check(strcmp(reason, captable_reason(25)) == 0, "25 and above are no answers");
     }
-    for (a = 0; a <= 24; a++)
+    for (a = 0; a <= 25; a++)
         for (b = 0; b < a; b++)
             check(strcmp(captable_reason((uint8_t)a), captable_reason((uint8_t)b)) != 0, "reasons differ");
     check(strcmp(captable_reason(0), "done") == 0, "0 is done");
     check(strcmp(captable_reason(17), "the input has a wrong length") == 0, "17 is confine's own");
     check(strcmp(captable_reason(19), "the object is outside the bound") == 0, "19 is the last of a chain");
     check(strcmp(captable_reason(20), "the import has a wrong length") == 0, "20 is an import's, and not an image's");
+    check(strcmp(captable_reason(24), "the target is alive") == 0, "24 is a reclaim's");
 }
 
 /* The numbers of document 01, by name, and from 18 on those of document 02. */
@@ -51,6 +52,7 @@ static void numbers(void)
     check(CAPTABLE_OBJECT_INVALID == 18 && CAPTABLE_OUTSIDE_BOUND == 19, "18 and 19");
     check(CAPTABLE_IMPORT_LENGTH_WRONG == 20 && CAPTABLE_IMPORT_VERSION_WRONG == 21, "20 and 21");
     check(CAPTABLE_IMPORT_VALUE_WRONG == 22 && CAPTABLE_MAKER_RECORDED == 23, "22 and 23");
+    check(CAPTABLE_TARGET_ALIVE == 24, "24");
 }
 
 /* The stamp is the second byte, of any bytes that have one, and no other byte. */
@@ -130,12 +132,14 @@ static void zeros(void)
     check(captable_write_older(table, image, sizeof image) == CAPTABLE_TABLE_UNSOUND, "nor for the older form");
 }
 
-/* The longest request, byte by byte in document 01's order, and lists that are too long. */
+/* The longest request, byte by byte in document 01's order, the three bytes of a reclaim, and lists that are too
+ * long. */
 static void requests(void)
 {
     static const uint8_t pairs[10] = {0, 7, 1, 6, 2, 5, 3, 4, 4, 3};
     static const uint8_t longest[CAPTABLE_REQUEST_BYTES] = {7, 5, 10, 1, 0, 0, 0, 0, 0, 0, 8, 0,
                                                             7, 4, 0,  7, 1, 6, 2, 5, 3, 4};
+    static const uint8_t destroy[3] = {8, 5, 7}, reclaim[3] = {9, 5, 7};
     uint8_t out[CAPTABLE_REQUEST_BYTES];
 
     check(captable_put_allocate(out, 5, 10, CAPTABLE_ACTIVE, 2048, 7, pairs, 4) == 22, "the longest request");
@@ -143,6 +147,57 @@ static void requests(void)
     check(captable_put_allocate(out, 5, 10, CAPTABLE_ACTIVE, 0, 7, pairs, 5) == 0, "five pairs are too many");
     check(captable_put_send(out, 5, 0, 1, pairs, 5, CAPTABLE_NO_REPLY) == 0, "five pairs are too many");
     check(captable_put_send(out, 5, 0, 1, pairs, 4, CAPTABLE_NO_REPLY) == 17, "a send with four pairs");
+    check(captable_put_destroy(out, 5, 7) == 3 && memcmp(out, destroy, sizeof destroy) == 0, "a destroy's bytes");
+    check(captable_put_reclaim(out, 5, 7) == 3 && memcmp(out, reclaim, sizeof reclaim) == 0, "a reclaim's bytes");
+}
+
+/* What a reclaim of `dead` through slot 1 of 5 is answered, and what becomes of the number. 5 and 6 are alive, 6
+ * passive; both were made by the dead object and name it, 6 through wk alone in its last slot. */
+static void reclaim_of(uint8_t dead)
+{
+    static captable_table table, before;
+    uint8_t request[CAPTABLE_REQUEST_BYTES];
+    size_t length = captable_put_reclaim(request, 5, 1), n;
+
+    table = captable_unborn();
+    for (n = 5; n <= 6; n++) {
+        table.records[n].status = CAPTABLE_ALIVE;
+        table.records[n].maker = dead;
+    }
+    table.records[5].kind = CAPTABLE_ACTIVE;
+    table.records[5].stock = (uint64_t)1 << 40;
+    table.records[dead].status = CAPTABLE_ALIVE;
+    table.records[dead].kind = CAPTABLE_ACTIVE;
+    table.records[dead].maker = 6;
+    captable_slot_at(&table, 5, 1)->target = captable_slot_at(&table, 6, 7)->target = dead;
+    captable_slot_at(&table, 6, 7)->rights = CAPTABLE_WK;
+    captable_slot_at(&table, 5, 1)->rights = CAPTABLE_RD | CAPTABLE_WK | CAPTABLE_TX;
+    before = table;
+    check(captable_step(&table, request, length) == CAPTABLE_TARGET_ALIVE, "it is alive, whatever the rights are");
+    table.records[dead].status = before.records[dead].status = CAPTABLE_DEAD;
+    check(captable_step(&table, request, length) == CAPTABLE_RIGHT_ABSENT, "a dead one needs wr");
+    check(memcmp(&table, &before, sizeof table) == 0, "a refusal leaves the table");
+    captable_slot_at(&table, 5, 1)->rights = CAPTABLE_WR;
+    check(captable_step(&table, request, length) == CAPTABLE_DONE, "with wr it is reclaimed, though 6 names it too");
+    check(table.records[dead].status == CAPTABLE_UNBORN && table.records[dead].kind == CAPTABLE_PASSIVE &&
+              table.records[dead].maker == CAPTABLE_NO_MAKER && table.records[dead].stock == 0,
+          "the record is an unborn one");
+    check(table.records[5].stock == ((uint64_t)1 << 40 | (uint64_t)1 << dead), "the number is in the asker's stock");
+    check(table.records[5].maker == 64 && table.records[6].maker == 64, "nobody made what it made");
+    for (n = 0; n < sizeof table.slots / sizeof table.slots[0]; n++)
+        check(table.slots[n].target == 0 && table.slots[n].rights == 0, "nobody names it");
+    check(captable_step(&table, request, length) == CAPTABLE_SLOT_EMPTY, "and it is not reclaimed twice");
+    length = captable_put_allocate(request, 5, dead, CAPTABLE_PASSIVE, 0, 1, NULL, 0);
+    check(captable_step(&table, request, length) == CAPTABLE_DONE, "it is made again");
+    check(table.records[dead].status == CAPTABLE_ALIVE && table.records[dead].maker == 5, "by who reclaimed it");
+}
+
+/* The first number, which an empty slot has as its target too, one in the middle and the last. */
+static void reclaims(void)
+{
+    reclaim_of(0);
+    reclaim_of(20);
+    reclaim_of(63);
 }
 
 /* A head of four bytes, and 64 entities of a count and eight pairs each: the longest import is brought in, its
@@ -178,7 +233,7 @@ static void longest_import(void)
 
 int main(void)
 {
-    check(CAPTABLE_VERSION == 0 * 65536 + 8 * 256 + 0, "the header's version is 0.8.0");
+    check(CAPTABLE_VERSION == 0 * 65536 + 9 * 256 + 0, "the header's version is 0.9.0");
     check(captable_version() == CAPTABLE_VERSION, "the archive has the header's version");
     reasons();
     numbers();
@@ -187,6 +242,7 @@ int main(void)
     beginnings();
     zeros();
     requests();
+    reclaims();
     longest_import();
     if (!wrong)
         printf("the header's own functions do what they say\n");

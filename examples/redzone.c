@@ -59,14 +59,30 @@ static int keeps_below(int number)
 /* All that the calls answer. Tables are kept as their images, for the padding of a struct is anything. */
 struct answers {
     uint32_t version;
-    uint8_t numbers[15];
+    uint8_t numbers[20];
     uint64_t bound, rows[4 * CAPTABLE_OBJECTS];
     uint8_t rounds, chain[CAPTABLE_LINKS];
     uint8_t loaded[CAPTABLE_IMAGE_BYTES], after[CAPTABLE_IMAGE_BYTES], given[CAPTABLE_IMAGE_BYTES];
     uint8_t imported[CAPTABLE_IMAGE_BYTES], unborn[CAPTABLE_IMAGE_BYTES], older[CAPTABLE_OLDER_IMAGE_BYTES];
+    uint8_t reclaimed[CAPTABLE_IMAGE_BYTES], again[CAPTABLE_IMAGE_BYTES];
     uint8_t printed[CAPTABLE_PRINTED];
     size_t count;
 };
+
+/* What 5 made is destroyed, and its number reclaimed in both forms of the step: a reclaim goes over the whole table,
+ * which the other requests do not. */
+static void reclaim(captable_table after, struct answers *out)
+{
+    uint8_t request[CAPTABLE_REQUEST_BYTES];
+    captable_outcome given;
+
+    out->numbers[15] = captable_step(&after, request, captable_put_destroy(request, 5, 7));
+    given = captable_step_by_value(after, request, captable_put_reclaim(request, 5, 7));
+    out->numbers[16] = given.number;
+    out->numbers[17] = captable_step(&after, request, captable_put_reclaim(request, 5, 7));
+    out->numbers[18] = captable_write(given.table, out->reclaimed, sizeof out->reclaimed);
+    out->numbers[19] = captable_write(after, out->again, sizeof out->again);
+}
 
 /* Makes every call, and reads an image of each version: the input has one of version 1, and what is written of the
  * table after the step is one of version 2. The allocate is document 01's example 6 and the test its example 1; of
@@ -106,6 +122,7 @@ static void ask(const uint8_t *input, size_t length, struct answers *out)
     out->numbers[12] = captable_write(captable_unborn(), out->unborn, sizeof out->unborn);
     out->numbers[13] = captable_write_older(loaded.table, out->older, sizeof out->older);
     out->numbers[14] = captable_read(out->after, sizeof out->after).number;
+    reclaim(after, out);
 }
 
 /* Was every call done, and not merely refused twice? Of the test, 1 comes in round one, and 0 and 2 in round two. */

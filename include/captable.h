@@ -2,7 +2,7 @@
  * captable.h: the proved capability table for firmware in C and C++.
  *
  * The table is one fixed table of 64 objects with eight capabilities each. Its rules are document 01's,
- * with requests 2.1 to 2.7 of document 02, and every answer is a number of theirs: 0 for done, or why not
+ * with requests 2.1 to 2.8 of document 02, and every answer is a number of theirs: 0 for done, or why not
  * (enum captable_number).
  *
  * Link with libcaptable.a, which `rt staticlib captable` proves and writes. It needs memcpy and memset
@@ -68,9 +68,9 @@ extern "C" {
 
 /* ---- version -------------------------------------------------------------------------------------- */
 
-/* The version of the calls, 0.8.0: the first number times 65,536, the second times 256, and the third.
+/* The version of the calls, 0.9.0: the first number times 65,536, the second times 256, and the third.
  * captable_version gives that of the archive. Compare the two at start. */
-#define CAPTABLE_VERSION 2048
+#define CAPTABLE_VERSION 2304
 
 /* ---- sizes ---------------------------------------------------------------------------------------- */
 
@@ -119,7 +119,7 @@ extern "C" {
 
 /* ---- values --------------------------------------------------------------------------------------- */
 
-/* The status of a number. A dead number is never used again. */
+/* The status of a number. A dead number is used again once a reclaim has made it unborn, and not before. */
 enum captable_status { CAPTABLE_UNBORN = 0, CAPTABLE_ALIVE = 1, CAPTABLE_DEAD = 2 };
 
 /* The kind of an object. Only an active one makes requests and can be sent to. */
@@ -139,26 +139,28 @@ enum captable_code {
     CAPTABLE_REVOKE = 5,
     CAPTABLE_SEND = 6,
     CAPTABLE_ALLOCATE = 7,
-    CAPTABLE_DESTROY = 8
+    CAPTABLE_DESTROY = 8,
+    CAPTABLE_RECLAIM = 9
 };
 
 /* The `reply` of a send that asks for no reply slot. */
 #define CAPTABLE_NO_REPLY 8
 
-/* The `maker` of an object that was not made in a run, and of an unborn record. */
+/* The `maker` of an object that was not made in a run or whose maker's number was reclaimed, and of an unborn
+ * record. */
 #define CAPTABLE_NO_MAKER 64
 
 /* Every answer of every call, and of the program `confine`. Checks run in number order, among those that
- * apply, but for these: whoever asks for a chain asks for a test first, and gets its refusals; an image and the
- * bytes of an import are checked as captable_read and captable_import say; writing the older form checks 1, 23
- * and 16 in turn. captable_reason says each in words. */
+ * apply, but for these: a reclaim checks 24 after 4 and before 6, and 5 does not apply to it; whoever asks for a
+ * chain asks for a test first, and gets its refusals; an image and the bytes of an import are checked as captable_read
+ * and captable_import say; writing the older form checks 1, 23 and 16 in turn. captable_reason says each in words. */
 enum captable_number {
     CAPTABLE_DONE = 0,
     CAPTABLE_TABLE_UNSOUND = 1,         /* the table is not sound */
     CAPTABLE_FIELD_INVALID = 2,         /* a field out of range, a list too long, or bytes that are no request */
     CAPTABLE_ACTOR_UNFIT = 3,           /* the actor is not alive, or passive */
     CAPTABLE_SLOT_EMPTY = 4,            /* the slot that is used, t, is empty; one that is copied may be empty */
-    CAPTABLE_TARGET_DEAD = 5,           /* the target is dead */
+    CAPTABLE_TARGET_DEAD = 5,           /* the target is dead; not of a reclaim, which is for a dead one */
     CAPTABLE_RIGHT_ABSENT = 6,          /* the slot lacks the right that is needed */
     CAPTABLE_TARGET_PASSIVE = 7,        /* a send to a passive target */
     CAPTABLE_ACTOR_ITSELF = 8,          /* a destroy of the actor itself */
@@ -176,7 +178,8 @@ enum captable_number {
     CAPTABLE_IMPORT_LENGTH_WRONG = 20,  /* import: below 4 bytes, another length field, or entities that end elsewhere */
     CAPTABLE_IMPORT_VERSION_WRONG = 21, /* import: the version byte is not 1 */
     CAPTABLE_IMPORT_VALUE_WRONG = 22,   /* import: a count, a target or rights out of range */
-    CAPTABLE_MAKER_RECORDED = 23        /* writing the older form: some maker is not 64, for which it has no place */
+    CAPTABLE_MAKER_RECORDED = 23,       /* writing the older form: some maker is not 64, for which it has no place */
+    CAPTABLE_TARGET_ALIVE = 24          /* a reclaim of a target that is alive */
 };
 
 /* Why a call was answered with the number, in plain words for a log. Never NULL. */
@@ -231,6 +234,8 @@ static inline const char *captable_reason(uint8_t number)
         return "a count, a target or rights in the import are out of range";
     case CAPTABLE_MAKER_RECORDED:
         return "some maker is not 64, and the older form has no place for it";
+    case CAPTABLE_TARGET_ALIVE:
+        return "the target is alive";
     default:
         return "no answer of the table has this number";
     }
@@ -239,7 +244,8 @@ static inline const char *captable_reason(uint8_t number)
 /* ---- structs -------------------------------------------------------------------------------------- */
 
 /* What a slot holds: a target and rights over it. Target 0 with rights 0 is an empty slot. A filled slot of an
- * object that stays alive is emptied by a revoke, and by nothing else; a destroy takes all slots with the object. */
+ * object that stays alive is emptied by a revoke and by a reclaim of the number that it names, and by nothing else; a
+ * destroy takes all slots with the object. */
 typedef struct captable_capability {
     uint8_t target;
     uint8_t rights;
@@ -249,9 +255,9 @@ typedef struct captable_capability {
  *
  * `maker` says who made it: the number of the object whose allocate did, or CAPTABLE_NO_MAKER, 64, for one that was
  * not made in a run, as those are that captable_import brings in or that a version 1 image has. An allocate writes
- * its actor there, and nothing else changes it; a dead object keeps it, and an unborn record has 64. In a sound table
- * it is 64 or a born number. It is there for service to look at, and is no authority: no check but that one asks for
- * it. */
+ * its actor there, a reclaim of the number that stands there makes it 64, and nothing else changes it; a dead object
+ * keeps it, and an unborn record has 64. In a sound table it is 64 or a born number. It is there for service to look
+ * at, and is no authority: no check but that one asks for it. */
 typedef struct captable_record {
     uint8_t status;
     uint8_t kind;
@@ -369,9 +375,23 @@ CAPTABLE_ANSWER uint8_t captable_sound(captable_table table);
  * empty in two ways: the slot that is copied is empty; or a fetch through wk without rd weakens a slot that has
  * neither rd nor wk (rights 2, 8 or 10). Such a copy changes no slot: the destination holds what it held before.
  * The request is done all the same and answered 0, so 0 does not say that something came: look at the slot. What
- * empties a slot of an object that stays alive is a revoke, and nothing else.
+ * empties a slot of an object that stays alive is a revoke, or a reclaim of the number that it names, and nothing else.
  *
- * The bytes are the code and then document 01's fields in their order, a byte each; a word is 4 bytes and
+ * A reclaim makes a dead number unborn, and it joins the stock of whoever asked, who can make an object of it again.
+ * What firmware should know of it:
+ *
+ * - Every slot anywhere that names the number is emptied, of active and of passive objects, whatever its rights are.
+ *   Who holds such a capability is not asked, does not keep the number from being reclaimed, and is not told: its next
+ *   request through that slot is answered 4, as through any empty slot. The asker's own slot t is emptied too.
+ * - Every maker that is the number becomes 64, the asker's own too. Who made those objects is not known any more.
+ * - The reply goes by the asker, its slot t and the target alone. It says nothing of other holders; what firmware shows
+ *   a routine beside it should say nothing of them either.
+ * - The record is the whole unborn one: kind 0, maker 64. What the object was is not known any more.
+ * - A number that is made again is another object. Mailboxes, queued requests, sets of members and whatever else the
+ *   firmware keeps by number are the old one's: clear them when the object is destroyed or its number reclaimed.
+ * - A refused reclaim leaves the table as it was, as any refusal does.
+ *
+ * The bytes are the code and then the documents' fields in their order, a byte each; a word is 4 bytes and
  * a part 8, the most significant first; a list is its count and then its pairs (actor's slot, destination
  * slot). The captable_put_... functions below write them. Bytes that are no request get 2.
  */
@@ -461,7 +481,8 @@ CAPTABLE_ANSWER uint8_t captable_write(captable_table table, uint8_t *buffer, si
 
 /* Writes the older form, an image of version 1, into the first CAPTABLE_OLDER_IMAGE_BYTES bytes in the same way: for
  * a rig that reads no other, and for captable_confine. It has no place for makers. The number is 1, then 23 if some
- * maker is not 64, a dead object's too, then 16. Once an allocate was done, a table goes back no more. */
+ * maker is not 64, a dead object's too, then 16. An object that an allocate made keeps a table from going back, until
+ * its own number is reclaimed or that of its maker. */
 CAPTABLE_ANSWER uint8_t captable_write_older(captable_table table, uint8_t *buffer, size_t length);
 
 /*
@@ -554,8 +575,8 @@ static inline size_t captable_put_store(uint8_t *out, uint8_t actor, uint8_t t, 
     return at + 2;
 }
 
-/* The target's slot j is emptied. Needs wr. No other request empties a slot of an object that stays alive. To empty
- * a slot of its own, an object needs wr over itself. */
+/* The target's slot j is emptied. Needs wr. But for a reclaim no other request empties a slot of an object that stays
+ * alive. To empty a slot of its own, an object needs wr over itself. */
 static inline size_t captable_put_revoke(uint8_t *out, uint8_t actor, uint8_t t, uint8_t j)
 {
     size_t at = captable_put_slots(out, CAPTABLE_REVOKE, actor, t);
@@ -596,10 +617,18 @@ static inline size_t captable_put_allocate(uint8_t *out, uint8_t actor, uint8_t 
 }
 
 /* The target becomes dead: it loses its word and slots and keeps its kind and its maker, and its stock joins the
- * actor's. Needs wr. */
+ * actor's. Its number stays in use until a reclaim. Needs wr. */
 static inline size_t captable_put_destroy(uint8_t *out, uint8_t actor, uint8_t t)
 {
     return captable_put_slots(out, CAPTABLE_DESTROY, actor, t);
+}
+
+/* The target, which is dead, becomes unborn, and its number joins the actor's stock. Every slot of any object that
+ * names it is emptied, slot t too, and every maker that names it becomes CAPTABLE_NO_MAKER: see captable_step. Needs
+ * wr, over a number that the actor need not have destroyed itself. */
+static inline size_t captable_put_reclaim(uint8_t *out, uint8_t actor, uint8_t t)
+{
+    return captable_put_slots(out, CAPTABLE_RECLAIM, actor, t);
 }
 
 #ifdef __cplusplus

@@ -7,10 +7,10 @@
 //! | section | file |
 //! |---|---|
 //! | Objects, slots, rights | `table`: records, soundness; `set`: numbers as 64 bits |
-//! | The eight requests | `step`: needs, effects, both forms of a step; `wire`: as bytes |
+//! | The eight requests | `step`: needs, effects, both forms of a step; the ninth of 2.8 is there too; `wire`: as bytes |
 //! | Potential access and influence | `access`: by saturation of the rules as written |
 //! | The confinement test | `confinement`: checks, stand-in, bound, all that the test brings back |
-//! | Two runs | `runs`: a run, the clean objects along it, their requests and replies |
+//! | Two runs | `runs`: a run, the clean objects along it, their requests and replies, as 2.8 amends them, and whose maker is compared |
 //! | Why something is turned down | `refusal`: numbers; each check is where it refuses |
 //! | The stored image | `image`: reading and writing, as 2.7 amends them; `confine`: the program |
 //! | Table K and twelve examples | `table`: `Table::k`; `tests/examples.rs`, example 2 as 2.3 amends it, example 6 with the maker of 2.7 |
@@ -29,6 +29,7 @@
 //! | 2.5 Sixteen rows for weakening | none: no result changes. The rows are compared with `step`, which keeps to the sentences: `weaken`, `Code::needs` |
 //! | 2.6 How many rounds | `rounds`: what is there after each round; `confinement` reports how many they are |
 //! | 2.7 Record who made it | `table`: the maker, a clause of soundness; `step`: who writes and keeps it; `image`: both versions; `confine`: version 1 alone |
+//! | 2.8 Use dead numbers again | `step`: reclaim, refusal 24; `wire`: its bytes; `runs`: clean by the latest making, the makers that equal records leave out |
 //!
 //! Beside these, `links` leads to the bound a second way, as the proved code has it too: what can be
 //! reached from the holder of the list, link by link, and in how many rounds. Of requests and lists as bytes document 01 says no

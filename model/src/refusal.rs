@@ -30,6 +30,8 @@ pub enum Refusal {
     ImportValue = 22,
     /// Some maker is not 64, which the older form cannot hold.
     MakerRecorded = 23,
+    /// Reclaim is for the dead.
+    TargetAlive = 24,
 }
 
 impl Refusal {

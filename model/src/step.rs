@@ -1,4 +1,5 @@
-//! The eight requests: what each needs, what refuses it and what it does.
+//! The nine requests, eight of document 01 and reclaim of 2.8 of document 02: what each needs, what refuses it
+//! and what it does.
 //! A step exists in two forms, table in and table out, and on a table lent to be changed.
 //! A copy that comes out empty changes no slot, as 2.4 of document 02 has it; an allocate records who made
 //! the object, as 2.7 has it.
@@ -6,7 +7,9 @@
 use crate::refusal::{reply_number, Refusal};
 use crate::set;
 use crate::table::{Capability, Record, Slots, Table};
-use crate::table::{ACTIVE, ALIVE, ALL_RIGHTS, DEAD, NO_SLOTS, OBJECTS, RD, SLOTS, TX, WK, WR};
+use crate::table::{
+    ACTIVE, ALIVE, ALL_RIGHTS, DEAD, NO_MAKER, NO_SLOTS, OBJECTS, RD, SLOTS, TX, WK, WR,
+};
 
 /// The largest number of pairs in a list.
 pub const MAX_PAIRS: usize = 4;
@@ -16,7 +19,7 @@ pub const NO_REPLY: u8 = 8;
 /// A pair: the actor's slot, the destination slot.
 pub type Pair = (u8, u8);
 
-/// A request, a line each as in document 01. Any field may be out of range, and a list of any length
+/// A request, a line each as in the documents. Any field may be out of range, and a list of any length
 /// can be stated: that is for the step to refuse.
 #[rustfmt::skip]
 #[derive(Clone, Debug, PartialEq, Eq)]
@@ -29,11 +32,12 @@ pub enum Request {
     Send { actor: u8, t: u8, word: u32, list: Vec<Pair>, reply: u8 },
     Allocate { actor: u8, n: u8, kind: u8, part: u64, i: u8, list: Vec<Pair> },
     Destroy { actor: u8, t: u8 },
-    /// A code that is not 1 to 8.
+    Reclaim { actor: u8, t: u8 },
+    /// A code that is not 1 to 9.
     Unknown { code: u8, actor: u8 },
 }
 
-/// The requests by name. The discriminant is document 01's code.
+/// The requests by name. The discriminant is the documents' code.
 #[derive(Clone, Copy, Debug, PartialEq, Eq)]
 #[repr(u8)]
 pub enum Code {
@@ -45,11 +49,12 @@ pub enum Code {
     Send = 6,
     Allocate = 7,
     Destroy = 8,
+    Reclaim = 9,
 }
 
 impl Code {
     /// In the order of their numbers, from 1 on.
-    pub const ALL: [Code; 8] = [
+    pub const ALL: [Code; 9] = [
         Code::Read,
         Code::Write,
         Code::Fetch,
@@ -58,6 +63,7 @@ impl Code {
         Code::Send,
         Code::Allocate,
         Code::Destroy,
+        Code::Reclaim,
     ];
 
     /// The request with the number, if there is one.
@@ -79,10 +85,11 @@ impl Code {
             Code::Send => "send",
             Code::Allocate => "allocate",
             Code::Destroy => "destroy",
+            Code::Reclaim => "reclaim",
         }
     }
 
-    /// Number and name, as document 01 has them.
+    /// Number and name, as the documents have them.
     pub fn label(self) -> String {
         format!("{} {}", self.number(), self.name())
     }
@@ -91,7 +98,7 @@ impl Code {
     pub fn needs(self) -> Option<u8> {
         match self {
             Code::Read | Code::Fetch => Some(RD | WK),
-            Code::Write | Code::Store | Code::Revoke | Code::Destroy => Some(WR),
+            Code::Write | Code::Store | Code::Revoke | Code::Destroy | Code::Reclaim => Some(WR),
             Code::Send => Some(TX),
             Code::Allocate => None,
         }
@@ -126,6 +133,7 @@ impl Code {
                 list: fields.list,
             },
             Code::Destroy => Request::Destroy { actor, t },
+            Code::Reclaim => Request::Reclaim { actor, t },
         }
     }
 }
@@ -157,6 +165,7 @@ impl Request {
             Request::Send { .. } => Code::Send.number(),
             Request::Allocate { .. } => Code::Allocate.number(),
             Request::Destroy { .. } => Code::Destroy.number(),
+            Request::Reclaim { .. } => Code::Reclaim.number(),
             Request::Unknown { code, .. } => *code,
         }
     }
@@ -172,6 +181,7 @@ impl Request {
             | Request::Send { actor, .. }
             | Request::Allocate { actor, .. }
             | Request::Destroy { actor, .. }
+            | Request::Reclaim { actor, .. }
             | Request::Unknown { actor, .. } => *actor,
         }
     }
@@ -186,7 +196,8 @@ impl Request {
             | Request::Store { t, .. }
             | Request::Revoke { t, .. }
             | Request::Send { t, .. }
-            | Request::Destroy { t, .. } => *t,
+            | Request::Destroy { t, .. }
+            | Request::Reclaim { t, .. } => *t,
             Request::Allocate { .. } | Request::Unknown { .. } => return None,
         };
         Some((t, Code::of(self.code())?.needs()?))
@@ -195,9 +206,10 @@ impl Request {
     /// Whether the code is known and no field is out of range.
     fn fields_are_in_range(&self) -> bool {
         let others_are_in_range = match self {
-            Request::Read { t, .. } | Request::Write { t, .. } | Request::Destroy { t, .. } => {
-                is_slot(*t)
-            }
+            Request::Read { t, .. }
+            | Request::Write { t, .. }
+            | Request::Destroy { t, .. }
+            | Request::Reclaim { t, .. } => is_slot(*t),
             Request::Fetch { t, i, j, .. } | Request::Store { t, i, j, .. } => {
                 is_slot(*t) && is_slot(*i) && is_slot(*j)
             }
@@ -263,7 +275,8 @@ fn check(table: &Table, request: &Request) -> Result<(), Refusal> {
     Ok(())
 }
 
-/// Checks 4 to 8, for the requests that use a slot of the actor.
+/// Checks 4 to 8, for the requests that use a slot of the actor. Reclaim is for a dead target: in the place of 5
+/// it meets 24.
 fn check_used_slot(
     table: &Table,
     request: &Request,
@@ -274,8 +287,10 @@ fn check_used_slot(
         return Err(Refusal::SlotEmpty);
     }
     let target = table.record(used.target);
-    if !target.is_alive() {
-        return Err(Refusal::TargetDead);
+    match (request, target.is_alive()) {
+        (Request::Reclaim { .. }, true) => return Err(Refusal::TargetAlive),
+        (Request::Reclaim { .. }, false) | (_, true) => {}
+        (_, false) => return Err(Refusal::TargetDead),
     }
     if !used.has_any(needed) {
         return Err(Refusal::RightAbsent);
@@ -335,6 +350,7 @@ fn apply(table: &mut Table, request: &Request) {
         }
         Request::Allocate { .. } => apply_allocate(table, request, &before),
         Request::Destroy { .. } => apply_destroy(table, actor, used.target),
+        Request::Reclaim { .. } => apply_reclaim(table, actor, used.target),
         Request::Unknown { .. } => {}
     }
 }
@@ -378,6 +394,23 @@ fn apply_destroy(table: &mut Table, actor: u8, target: u8) {
         maker: destroyed.maker,
     };
     table.record_mut(actor).stock |= destroyed.stock;
+}
+
+/// The effect of reclaim: the target's number is unborn and in the actor's stock, and nothing names it any more,
+/// whoever holds or was made.
+fn apply_reclaim(table: &mut Table, actor: u8, target: u8) {
+    *table.record_mut(target) = Record::UNBORN;
+    for record in &mut table.records {
+        for slot in &mut record.slots {
+            if slot.target == target {
+                *slot = Capability::EMPTY;
+            }
+        }
+        if record.maker == target {
+            record.maker = NO_MAKER;
+        }
+    }
+    table.record_mut(actor).stock |= set::single(target);
 }
 
 /// Copies pairs left to right. The source is a copy made before the request, because the

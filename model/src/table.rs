@@ -12,7 +12,7 @@ pub const SLOTS: usize = 8;
 pub const UNBORN: u8 = 0;
 /// Status of an object that is in use.
 pub const ALIVE: u8 = 1;
-/// Status of an object that was destroyed; its number is never used again.
+/// Status of an object that was destroyed. Its number is used again after a reclaim alone.
 pub const DEAD: u8 = 2;
 
 /// The maker of what was not made in a run, and of an unborn number: a number that no object has.

@@ -1,4 +1,4 @@
-//! Requests and lists as bytes. A request is its code and then document 01's fields in their order, a
+//! Requests and lists as bytes. A request is its code and then the documents' fields in their order, a
 //! byte each; a word is 4 bytes and a part 8, the most significant first; a list is a count byte and its
 //! pairs. The list of a test is two bytes for each entry: target, rights.
 
@@ -22,7 +22,10 @@ pub fn encode(request: &Request) -> Vec<u8> {
     let mut bytes = vec![request.code(), request.actor()];
     bytes.extend(request.used_slot().map(|(t, _)| t));
     match request {
-        Request::Read { .. } | Request::Destroy { .. } | Request::Unknown { .. } => {}
+        Request::Read { .. }
+        | Request::Destroy { .. }
+        | Request::Reclaim { .. }
+        | Request::Unknown { .. } => {}
         Request::Write { word, .. } => bytes.extend(word.to_be_bytes()),
         Request::Fetch { i, j, .. } | Request::Store { i, j, .. } => bytes.extend([*i, *j]),
         Request::Revoke { j, .. } => bytes.push(*j),
@@ -97,7 +100,7 @@ pub fn request_in(bytes: &[u8]) -> Option<Request> {
     rest.0.is_empty().then(|| code.request(fields))
 }
 
-/// The fields of a request with the code, in document 01's order.
+/// The fields of a request with the code, in the documents' order.
 fn fields_in(code: Code, rest: &mut Rest) -> Option<Fields> {
     let mut fields = Fields {
         actor: rest.byte()?,
@@ -109,7 +112,7 @@ fn fields_in(code: Code, rest: &mut Rest) -> Option<Fields> {
         fields.t = rest.byte()?;
     }
     match code {
-        Code::Read | Code::Destroy => {}
+        Code::Read | Code::Destroy | Code::Reclaim => {}
         Code::Write => fields.word = rest.number(4)? as u32,
         Code::Fetch | Code::Store => {
             fields.i = rest.byte()?;

@@ -1,5 +1,5 @@
 //! Sentences of document 01 that its examples leave out, in its order, each on a small table. Those on empty
-//! copies are as 2.4 of document 02 amends them, those on images as 2.7 does.
+//! copies are as 2.4 of document 02 amends them, those on images as 2.7 does, those on clean objects as 2.8 does.
 
 use yavrinks_model::confinement::{confinement_test, Tested};
 use yavrinks_model::image::{encode, read, write, Version};
@@ -180,7 +180,7 @@ fn clean_objects_are_told_by_who_asks_and_when() {
         Request::Destroy { actor: 4, t: 0 },
         read(3),
         read(4 + 64),
-        Request::Unknown { code: 9, actor: 6 },
+        Request::Unknown { code: 10, actor: 6 },
         read(20),
     ];
     let part = clean_part(&table, clean, &requests);

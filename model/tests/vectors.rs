@@ -126,6 +126,45 @@ fn steps_of_2_7() {
 }
 
 #[test]
+fn steps_of_2_8() {
+    expect_steps("2.8/steps.jsonl", 160, &[]);
+}
+
+/// Lines by their number, each with a reply.
+type Replies = &'static [(usize, u8)];
+
+/// The lines with code 9 before 2.8: the file, how many lines it has, and for each line its number and the reply that
+/// every reclaim gets now, whichever slot it uses. Such a line says 1, for a table that is not sound, or 2; it names no
+/// slot, so that as it stands it is no request still. Both actors of 2.7 can act and hold nothing, so that a reclaim
+/// is refused by 4.
+const CODE_9_BEFORE_2_8: [(&str, usize, Replies); 3] = [
+    ("steps.jsonl", 360, &[(276, 1)]),
+    ("2.3/steps.jsonl", 160, &[(151, 1)]),
+    ("2.7/steps.jsonl", 160, &[(47, 4), (56, 4)]),
+];
+
+#[test]
+fn code_9_is_amended_by_2_8() {
+    for (file, count, amended) in CODE_9_BEFORE_2_8 {
+        let mut left = amended.iter();
+        for (number, value) in (1..).zip(values(file, count)) {
+            let line = StepLine::of(&value);
+            let Request::Unknown { code: 9, actor } = line.request else {
+                continue;
+            };
+            let &(named, reply) = left.next().expect("line that is not named");
+            assert_eq!(number, named, "{file}");
+            assert_eq!(line.answer.0, if reply == 1 { 1 } else { 2 }, "{file}");
+            for t in 0..8 {
+                let now = (reply, line.table.clone());
+                assert_eq!(step(&line.table, &Request::Reclaim { actor, t }), now);
+            }
+        }
+        assert_eq!(left.next(), None, "{file}");
+    }
+}
+
+#[test]
 fn access() {
     for (line, value) in (1..).zip(values("access.jsonl", 30)) {
         let mut expected = Access::none();
@@ -207,6 +246,11 @@ fn tests_of_2_4() {
 #[test]
 fn tests_of_2_7() {
     expect_tests("2.7/tests.jsonl", 80, &[]);
+}
+
+#[test]
+fn tests_of_2_8() {
+    expect_tests("2.8/tests.jsonl", 80, &[]);
 }
 
 #[test]

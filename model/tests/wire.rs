@@ -35,6 +35,7 @@ fn requests() -> Vec<(Request, Vec<u8>)> {
             vec![7, 9, 40, 1, 1, 2, 3, 4, 5, 6, 7, 8, 5, 1, 3, 4],
         ),
         (Request::Destroy { actor, t }, vec![8, 9, 2]),
+        (Request::Reclaim { actor, t }, vec![9, 9, 2]),
     ]
 }
 
@@ -66,7 +67,8 @@ fn other_bytes_make_a_request_without_fields() {
     assert_eq!(decode(&[]), without(0, NOBODY));
     assert_eq!(decode(&[7]), without(7, NOBODY));
     assert_eq!(decode(&[1, 9]), without(1, 9));
-    assert_eq!(decode(&[9, 9, 2]), without(9, 9));
+    assert_eq!(decode(&[9, 9]), without(9, 9));
+    assert_eq!(decode(&[10, 9, 2]), without(10, 9));
     let mut five_pairs = vec![6, 9, 2, 1, 2, 3, 4, 5];
     five_pairs.extend([0; 11]);
     assert_eq!(decode(&five_pairs), without(6, 9));

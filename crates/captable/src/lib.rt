@@ -58,7 +58,7 @@ pub struct ShownChain {
 pub extern "C" fn captable_version() -> u32
     ensures { λ r. ⌜ r ≡ version ⌝ }
 {
-    2048
+    2304
 }
 
 // The wholly unborn table: every record unborn, with the maker 64. A table of zeros is not it.

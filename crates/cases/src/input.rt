@@ -152,6 +152,7 @@ pub fn request(s: &[u8], at: u16) -> Request {
         6 => send(s, at),
         7 => allocate(s, at),
         8 => Request::Destroy { actor: actor, t: t },
+        9 => Request::Reclaim { actor: actor, t: t },
         _ => Request::Unknown {
             code: code,
             actor: actor,

@@ -1,17 +1,18 @@
--- The three requests that change several places: the table that the code has put together is the one that the definition names.
+-- The requests that change several places: the table that the code has put together is the one that the definition names.
 -- By putting in what each call ensures. Assumes nothing.
 use mathlib.Core.Path.{_≡_, refl, _∙_, ap, ap₂}
 use Prim.Native.Nat.{ℕ, _+_, _≤_, _<_}
 use native.Mathlib.Numerals.{add-one}
 use borrow.Author.Tests.{lt-ltb, le-ltb}
-use Rattle.mask.specs.Sets.{excluding, lessOf, unionOf}
+use Rattle.mask.specs.Sets.{including, excluding, lessOf, unionOf}
 use Rattle.table.specs.declared.Table.{Table}
-use Rattle.table.specs.Cells.{emptySlot, recordAt, slotAt, stockAt, putRecord, putSlot}
+use Rattle.table.specs.Cells.{emptySlot, unbornRecord, recordAt, slotAt, stockAt, putRecord, putSlot}
 use Rattle.requests.specs.declared.PairList.{PairList}
 use Rattle.copies.specs.declared.Row.{Row}
 use Rattle.requests.specs.Asks.{pairsOf}
-use Rattle.effects.specs.Effects.{answerSlot, clearSlots, withWord, withStock, made, died, fullOver, stockLess, sent, allocated, destroyed}
+use Rattle.effects.specs.Effects.{answerSlot, clearSlots, withWord, withStock, made, died, fullOver, stockLess, sent, allocated, destroyed, joined, reclaimed}
 use Rattle.copies.specs.Copies.{copyPairs}
+use Rattle.forgetting.specs.Forgetting.{forgotten}
 use Rattle.refusals.specs.Helpers.{PairsFit}
 use Rattle.copies.specs.Helpers.{rowAt, cellOf}
 use Rattle.copies.proofs.Pairs.{copy-row}
@@ -57,3 +58,10 @@ pub destroyed-is : (t u : Table) (a g x stock : ℕ) → u ≡ clearSlots t g x 
 unfolding destroyed
 destroyed-is t u a g x stock e h f =
     ap₂ (λ (v : Table) (m : ℕ). putRecord (putRecord v g (died (recordAt t g))) a (withStock (recordAt t a) m)) (e ∙ ap (clearSlots t g) h) f
+
+-- reclaim: the two records of a table where the number is forgotten
+pub reclaimed-is : (t u : Table) (a g stock : ℕ) → u ≡ forgotten t g → stock ≡ including g (stockAt (putRecord u g unbornRecord) a)
+    → putRecord (putRecord u g unbornRecord) a (withStock (recordAt (putRecord u g unbornRecord) a) stock) ≡ reclaimed t a g
+unfolding reclaimed joined
+reclaimed-is t u a g stock e f =
+    ap (λ (x : ℕ). putRecord (putRecord u g unbornRecord) a (withStock (recordAt (putRecord u g unbornRecord) a) x)) f ∙ ap (λ (v : Table). joined (putRecord v g unbornRecord) a g) e

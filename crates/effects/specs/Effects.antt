@@ -1,18 +1,19 @@
--- Document 01, "The eight requests", the column "Effect", read only where no refusal is met. Each effect is puts of
--- records and slots, one after the other.
+-- Document 01, "The eight requests", the column "Effect", and what a reclaim does (document 02, 2.8), read only where no refusal is met.
+-- Each effect is puts of records and slots, one after the other; a reclaim first forgets its number in the whole table.
 use mathlib.Core.Bool.{true, false}
 use mathlib.Core.List.{List}
 use Prim.Native.Nat.{ℕ, zero, suc}
 use lib.Dec.{ltb}
-use Rattle.mask.specs.Sets.{excluding, lessOf, unionOf}
+use Rattle.mask.specs.Sets.{including, excluding, lessOf, unionOf}
 use Rattle.table.specs.declared.Capability.{Capability}
 use Rattle.table.specs.declared.Record.{Record}
 use Rattle.table.specs.declared.Table.{Table}
-use Rattle.table.specs.Cells.{emptySlot, recordAt, slotAt, stockAt, putRecord, putSlot}
+use Rattle.table.specs.Cells.{emptySlot, unbornRecord, recordAt, slotAt, stockAt, putRecord, putSlot}
 use Rattle.requests.specs.declared.Pair.{Pair}
-use Rattle.requests.specs.Asks.{Ask, read, write, fetch, store, revoke, send, allocate, destroy, unknown}
+use Rattle.requests.specs.Asks.{Ask, read, write, fetch, store, revoke, send, allocate, destroy, reclaim, unknown}
 use Rattle.refusals.specs.Refusals.{targetOf, targetRecord, rightsOf}
 use Rattle.copies.specs.Copies.{fetched, copyTo, copyPairs}
+use Rattle.forgetting.specs.Forgetting.{forgotten}
 
 -- "if reply is 0 to 7, that slot of the target gets (actor, tx); 8 means none"
 unfoldable pub answerSlot : Table → ℕ → ℕ → ℕ → Table
@@ -66,6 +67,14 @@ destroyed tb a g =
     putRecord (putRecord (clearSlots tb g 8) g (died (recordAt tb g))) a
     (withStock (recordAt tb a) (unionOf (stockAt tb a) (stockAt tb g)))
 
+-- reclaim of g: "every capability naming it anywhere becomes an empty slot, and every maker byte naming it becomes 64"; "The number becomes
+-- unborn", the whole unborn record, "and joins the actor's stock"
+unfoldable pub joined : Table → ℕ → ℕ → Table
+joined tb a g = putRecord tb a (withStock (recordAt tb a) (including g (stockAt tb a)))
+
+unfoldable pub reclaimed : Table → ℕ → ℕ → Table
+reclaimed tb a g = joined (putRecord (forgotten tb g) g unbornRecord) a g
+
 unfoldable pub effect : Table → Ask → Table
 effect tb (read a t) = putRecord tb a (withWord (recordAt tb a) (targetRecord tb a t .word))
 effect tb (write a t w) = putRecord tb (targetOf tb a t) (withWord (targetRecord tb a t) w)
@@ -75,4 +84,5 @@ effect tb (revoke a t j) = putSlot tb (targetOf tb a t) j emptySlot
 effect tb (send a t w l y) = sent tb a (targetOf tb a t) w l y
 effect tb (allocate a n k p i l) = allocated tb a n k p i l
 effect tb (destroy a t) = destroyed tb a (targetOf tb a t)
+effect tb (reclaim a t) = reclaimed tb a (targetOf tb a t)
 effect tb (unknown c a) = tb

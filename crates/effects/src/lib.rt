@@ -1,7 +1,9 @@
-// What a request does, document 01, the column "Effect", where it changes several places: send, allocate and destroy. Their checks
-// are done when they come here.
+// What a request does, document 01, the column "Effect", where it changes several places: send, allocate, destroy, and reclaim of
+// document 02, 2.8. Their checks are done when they come here.
 use copies::copy_pairs;
 use copies::row_of;
+use forgetting::makers_forgotten;
+use forgetting::slots_forgotten;
 use requests::PairList;
 use table::Capability;
 use table::Record;
@@ -10,7 +12,7 @@ ghost use mathlib.Core.Path.{_≡_};
 ghost use Prim.Native.Nat.{_<_};
 ghost use Rattle.requests.specs.Asks.{pairsOf};
 ghost use Rattle.refusals.specs.Helpers.{PairsFit};
-ghost use Rattle.effects.specs.Effects.{sent as sentTo, allocated as allocatedTo, destroyed as destroyedBy};
+ghost use Rattle.effects.specs.Effects.{sent as sentTo, allocated as allocatedTo, destroyed as destroyedBy, reclaimed as reclaimedBy};
 
 // What a send does to its target g: the word, the pairs from the actor's slots as they were, then the reply slot.
 pub fn sent(t: Table, a: u8, g: u8, word: u32, l: PairList, reply: u8) -> Table
@@ -91,5 +93,26 @@ pub fn destroyed(t: Table, a: u8, g: u8) -> Table
         word: taker.word,
         stock: mask::union(taker.stock, giver.stock),
     };
+    u
+}
+
+// What a reclaim of g does: nothing names g any more, its record is the unborn one, and g joins the actor's stock.
+pub fn reclaimed(t: Table, a: u8, g: u8) -> Table
+    requires { ⌜ (a < 64) × (g < 64) ⌝ }
+    ensures { λ r. ⌜ r ≡ reclaimedBy t a g ⌝ }
+{
+    let k = a as usize;
+    let m = g as usize;
+    let bare = slots_forgotten(t, g);
+    let mut u = makers_forgotten(bare, g);
+    u.records[m] = Record {
+        status: 0,
+        kind: 0,
+        maker: 64,
+        word: 0,
+        stock: 0,
+    };
+    let taker = u.records[k];
+    u.records[k].stock = mask::with(taker.stock, g);
     u
 }

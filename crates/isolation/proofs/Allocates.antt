@@ -24,9 +24,9 @@ use Rattle.refusals.specs.Replies.{isDone}
 use Rattle.refusals.specs.Refusals.{refusal}
 use Rattle.effects.specs.Effects.{withStock, made, fullOver, stockLess, allocated, effect}
 use Rattle.copies.specs.Copies.{copyPairs}
-use Rattle.isolation.specs.Clean.{Clean, adding}
-use Rattle.isolation.specs.Demand.{AgreeOn}
-use Rattle.isolation.proofs.Invariant.{Isolated, nobody-clean, putSlot-isolated, putRecord-isolated, agree-slot-out, agree-record-out, agree-trans, agree-slot, agree-record}
+use Rattle.isolation.specs.Clean.{Clean, setting}
+use Rattle.isolation.specs.Demand.{SameFields, AgreeOn}
+use Rattle.isolation.proofs.Invariant.{Isolated, nobody-clean, putSlot-isolated, putRecord-isolated, fields-same, fields-stock, agree-slot-out, agree-record-out, agree-trans, agree-slot, agree-record}
 use Rattle.copies.proofs.Pairs.{copies-record, copies-sized}
 use Rattle.steps.proofs.Granted.{ranged, Made, made-facts}
 use Rattle.isolation.proofs.Sides.{fits-live, stock-kept}
@@ -39,6 +39,9 @@ has-left n part stock k hk h =
     let p = and-true (has k (excluding n stock)) (not (has k part)) (sym (has-less k (excluding n stock) part hk) ∙ h) in
     let q = and-true (has k stock) (not (eqb k n)) (sym (has-excluding k n stock hk) ∙ p .0) in
     (q .0, eqb-false k n (not-true _ (q .1)), not-true _ (p .1))
+
+abbrev pub adding : ℕ → Clean → Clean
+adding n C = setting n true C
 
 -- one more clean object ---------------------------------------------------------------
 adding-isolated : (t : Table) (C : Clean) (n : ℕ) → Isolated t C → 1 ≤ statusAt t n
@@ -56,7 +59,7 @@ adding-isolated t C n v b bare unnamed = record {
       (λ e h l c. v .outside m j hj (rw (ne-eqb m n e) at h) l (rw (ne-eqb _ n (unnamed m j hj l)) at c));
 }
 
-adding-agree : (C : Clean) (t u : Table) (n : ℕ) → AgreeOn C t u → recordAt t n ≡ recordAt u n → ((j : ℕ) → j < 8 → slotAt t n j ≡ slotAt u n j) → AgreeOn (adding n C) t u
+adding-agree : (C : Clean) (t u : Table) (n : ℕ) → AgreeOn C t u → SameFields (recordAt t n) (recordAt u n) → ((j : ℕ) → j < 8 → slotAt t n j ≡ slotAt u n j) → AgreeOn (adding n C) t u
 adding-agree C t u n a r s = record {
   records = λ m. byEq m n (λ e h. rw e r) (λ e h. a .records m (rw (ne-eqb m n e) at h));
   slots = λ m j hj. byEq m n (λ e h. rw e (s j hj)) (λ e h. a .slots m j hj (rw (ne-eqb m n e) at h));
@@ -72,7 +75,7 @@ module _ (t : Table) (C : Clean) (v : Isolated t C) (a n k p i : ℕ) (ps : List
   a≢n : a ≢ n
   a≢n q = absurd (omega (arith, unborn, rw q at (g .alive)))
 
-  outsider : C n ≡ false
+  pub outsider : C n ≡ false
   outsider = nobody-clean t C n v unborn
 
   -- the actor's stock
@@ -174,14 +177,14 @@ module _ (C : Clean) (t u : Table) (v : Isolated t C) (w : Isolated u C) (ag : A
     (e : isDone (refusal t (allocate a n k p i ps)) ≡ true) (f : isDone (refusal u (allocate a n k p i ps)) ≡ true) where
   agree1 : AgreeOn C (t1 t C v a n k p i ps e) (t1 u C w a n k p i ps f)
   unfolding t1
-  agree1 = agree-record C t u (v .sound .size) (w .sound .size) ag a (g t C v a n k p i ps e .actor) _ _ (cc (ag .records a c))
+  agree1 = agree-record C t u (v .sound .size) (w .sound .size) ag a (g t C v a n k p i ps e .actor) _ _ (let f = ag .records a c in fields-stock _ _ f (ap (stockLess n p) (f .stock)))
 
   agree2 : AgreeOn C (t2 t C v a n k p i ps e) (t2 u C w a n k p i ps f)
   unfolding t2
-  agree2 = agree-record C _ _ (v1 t C v a n k p i ps e .sound .size) (v1 u C w a n k p i ps f .sound .size) agree1 n (g t C v a n k p i ps e .number) _ _ refl
+  agree2 = agree-record C _ _ (v1 t C v a n k p i ps e .sound .size) (v1 u C w a n k p i ps f .sound .size) agree1 n (g t C v a n k p i ps e .number) _ _ (fields-same refl)
 
   agree3 : AgreeOn (adding n C) (t2 t C v a n k p i ps e) (t2 u C w a n k p i ps f)
-  agree3 = adding-agree C _ _ n agree2 (new2 t C v a n k p i ps e ∙ sym (new2 u C w a n k p i ps f))
+  agree3 = adding-agree C _ _ n agree2 (fields-same (new2 t C v a n k p i ps e ∙ sym (new2 u C w a n k p i ps f)))
       (λ j hj. (slot2 t C v a n k p i ps e n j ∙ bare-slot t n (v .sound) (unborn t C v a n k p i ps e) j hj)
       ∙ sym (slot2 u C w a n k p i ps f n j ∙ bare-slot u n (w .sound) (unborn u C w a n k p i ps f) j hj))
 

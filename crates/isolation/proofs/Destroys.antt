@@ -1,6 +1,6 @@
 -- Destroy, answered 0: the emptied slots, the dead record and the joined stock keep the invariant; from an actor that is not clean
 -- they leave every clean object as it was; from a clean actor they keep two agreeing tables in agreement. Assumes nothing.
-use mathlib.Core.Path.{_≡_, refl, sym, _∙_, ap}
+use mathlib.Core.Path.{_≡_, refl, sym, _∙_, ap, ap₂}
 use mathlib.Core.Logic.{_≢_}
 use mathlib.Core.Bool.{true, false}
 use Prim.Native.Nat.{ℕ, _≤_, _<_}
@@ -15,20 +15,20 @@ use Rattle.table.proofs.Cells.{record-put, sized-putRecord}
 use Rattle.rights.specs.declared.Need.the-variants.{Write}
 use Rattle.requests.specs.Asks.{destroy}
 use Rattle.refusals.specs.Replies.{isDone}
-use Rattle.refusals.specs.Refusals.{badField, laterRows, refusal, targetOf}
+use Rattle.refusals.specs.Refusals.{alive, badField, laterRows, refusal, targetOf}
 use Rattle.effects.specs.Effects.{clearSlots, withStock, died, destroyed, effect}
 use Rattle.effects.proofs.Makers.{clear-record}
 use Rattle.isolation.specs.Clean.{Clean}
 use Rattle.isolation.specs.Demand.{AgreeOn}
-use Rattle.isolation.proofs.Invariant.{Isolated, status-up, putRecord-isolated, agree-record-out, agree-trans, agree-record}
+use Rattle.isolation.proofs.Invariant.{Isolated, status-up, putRecord-isolated, fields-stock, agree-record-out, agree-trans, agree-record}
 use Rattle.steps.proofs.Granted.{past-checks, Granted, granted, not-itself}
 use Rattle.isolation.proofs.Sides.{clean-target, dirty-target, weak-no-write, fits-live, stock-kept}
 use Rattle.isolation.proofs.Copies.{clear-isolated, clear-sized, clear-bare, clear-out, clear-both}
 
 module _ (t : Table) (C : Clean) (v : Isolated t C) (a s : ℕ) (e : isDone (refusal t (destroy a s)) ≡ true) where
-  g : Granted t a s Write
+  g : Granted t a s alive Write
   unfolding badField laterRows
-  g = let r = past-checks t (destroy a s) e in granted t a s Write _ (v .sound) (r .fields) (r .alive) (r .later) .0
+  g = let r = past-checks t (destroy a s) e in granted t a s alive Write _ (v .sound) (r .fields) (r .alive) (r .later) .0
 
   y : ℕ
   y = targetOf t a s
@@ -123,8 +123,9 @@ module _ (C : Clean) (t u : Table) (v : Isolated t C) (w : Isolated u C) (ag : A
       let z = targetOf t a s in
       let p = ag .slots a s (h .slot) c in
       let q = ag .records z (clean-target t C v a s Write h c) in
+      let f = ag .records a c in
       let zt = clear-sized t z 8 (v .sound .size) in
       let zu = clear-sized u z 8 (w .sound .size) in
       rw (← p, targetOf) (agree-record C _ _ (sized-putRecord _ _ _ zt) (sized-putRecord _ _ _ zu)
-      (agree-record C _ _ zt zu (clear-both t u C z 8 (v .sound .size) (w .sound .size) ag (h .target) (omega arith)) z (h .target) _ _ (cc q))
-      a (h .actor) _ _ (cc (q, ag .records a c)))
+      (agree-record C _ _ zt zu (clear-both t u C z 8 (v .sound .size) (w .sound .size) ag (h .target) (omega arith)) z (h .target) _ _ (record { status = refl; kind = q .kind; word = refl; stock = refl }))
+      a (h .actor) _ _ (fields-stock _ _ f (ap₂ unionOf (f .stock) (q .stock))))

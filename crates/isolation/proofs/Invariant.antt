@@ -1,7 +1,7 @@
 -- The isolation invariant of a table and its clean objects C: the table is sound; each clean number is born; a filled slot of a
 -- clean object names a clean object; a filled slot of any other object that names a clean object has rights exactly wk.
 -- A put of a slot keeps it where the slot fits, and so does a put of a record; what is put on an object that is not clean leaves
--- the clean objects as they were; equal puts keep two tables in agreement. Assumes nothing.
+-- the clean objects as they were; equal puts keep two tables in agreement, on every field but the maker. Assumes nothing.
 use mathlib.Core.Path.{_≡_, refl, sym, _∙_, ap}
 use mathlib.Core.Logic.{_≢_}
 use mathlib.Core.Bool.{true, false}
@@ -16,7 +16,8 @@ use Rattle.table.specs.Cells.{slotAt, statusAt, makerAt, stockAt, putRecord, pu
 use Rattle.table.proofs.Cells.{Sized, sized-putSlot, sized-putRecord, record-same, record-other, slot-same, slot-other, slot-beside, slot-put, record-put, record-high}
 use Rattle.table.proofs.SoundFacts.{RecordFine, MakerFine, SlotFine, Sound}
 use Rattle.isolation.specs.Clean.{Clean}
-use Rattle.isolation.specs.Demand.{AgreeOn}
+use Rattle.effects.specs.Effects.{withWord, withStock}
+use Rattle.isolation.specs.Demand.{SameFields, AgreeOn}
 
 -- rights of wk and nothing else
 abbrev pub wkAlone : ℕ
@@ -108,6 +109,27 @@ putRecord-isolated t C n r v hn f = record {
   outside = v .outside;
 }
 
+-- the same fields -------------------------------------------------------------------------
+pub fields-same : {r s : Record} → r ≡ s → SameFields r s
+fields-same e = record {
+  status = ap (λ (x : Record). x .status) e;
+  kind = ap (λ (x : Record). x .kind) e;
+  word = ap (λ (x : Record). x .word) e;
+  stock = ap (λ (x : Record). x .stock) e;
+}
+
+pub fields-sym : {r s : Record} → SameFields r s → SameFields s r
+fields-sym f = record { status = sym (f .status); kind = sym (f .kind); word = sym (f .word); stock = sym (f .stock) }
+
+pub fields-trans : {r s q : Record} → SameFields r s → SameFields s q → SameFields r q
+fields-trans f g = record { status = f .status ∙ g .status; kind = f .kind ∙ g .kind; word = f .word ∙ g .word; stock = f .stock ∙ g .stock }
+
+pub fields-word : {r s : Record} (w x : ℕ) → SameFields r s → w ≡ x → SameFields (withWord r w) (withWord s x)
+fields-word w x f e = record { status = f .status; kind = f .kind; word = e; stock = f .stock }
+
+pub fields-stock : {r s : Record} (w x : ℕ) → SameFields r s → w ≡ x → SameFields (withStock r w) (withStock s x)
+fields-stock w x f e = record { status = f .status; kind = f .kind; word = f .word; stock = e }
+
 -- agreement on the clean objects ----------------------------------------------------------
 module _ (C : Clean) (t : Table) (n : ℕ) (out : C n ≡ false) where
   apart-from : (m : ℕ) → C m ≡ true → m ≢ n
@@ -115,27 +137,27 @@ module _ (C : Clean) (t : Table) (n : ℕ) (out : C n ≡ false) where
 
   pub agree-record-out : (r : Record) → AgreeOn C t (putRecord t n r)
   agree-record-out r = record {
-    records = λ m h. sym (record-other t n m r (apart-from m h));
+    records = λ m h. fields-same (sym (record-other t n m r (apart-from m h)));
     slots = λ m j hj h. refl;
   }
 
   pub agree-slot-out : (j : ℕ) (c : Capability) → j < 8 → AgreeOn C t (putSlot t n j c)
   agree-slot-out j c hj = record {
-    records = λ m h. refl;
+    records = λ m h. fields-same refl;
     slots = λ m k hk h. sym (slot-other t n j m k c hj hk (apart-from m h));
   }
 
 pub agree-refl : (C : Clean) (t : Table) → AgreeOn C t t
-agree-refl C t = record { records = λ m h. refl; slots = λ m k hk h. refl }
+agree-refl C t = record { records = λ m h. fields-same refl; slots = λ m k hk h. refl }
 
 pub agree-sym : {C : Clean} {t u : Table} → AgreeOn C t u → AgreeOn C u t
-agree-sym a = record { records = λ m h. sym (a .records m h); slots = λ m k hk h. sym (a .slots m k hk h) }
+agree-sym a = record { records = λ m h. fields-sym (a .records m h); slots = λ m k hk h. sym (a .slots m k hk h) }
 
 pub agree-trans : {C : Clean} {t u w : Table} → AgreeOn C t u → AgreeOn C u w → AgreeOn C t w
-agree-trans a b = record { records = λ m h. a .records m h ∙ b .records m h; slots = λ m k hk h. a .slots m k hk h ∙ b .slots m k hk h }
+agree-trans a b = record { records = λ m h. fields-trans (a .records m h) (b .records m h); slots = λ m k hk h. a .slots m k hk h ∙ b .slots m k hk h }
 
 module _ (C : Clean) (t u : Table) (zt : Sized t) (zu : Sized u) (a : AgreeOn C t u) (n : ℕ) (hn : n < 64) where
-  pub agree-record : (r s : Record) → r ≡ s → AgreeOn C (putRecord t n r) (putRecord u n s)
+  pub agree-record : (r s : Record) → SameFields r s → AgreeOn C (putRecord t n r) (putRecord u n s)
   agree-record r s e = record {
     records = λ m h. byEq m n
         (λ q. rw (q, record-same t n r zt hn, record-same u n s zu hn) e)

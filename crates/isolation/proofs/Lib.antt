@@ -1,3 +1,4 @@
+pub mod Latest
 pub mod Invariant
 pub mod Copies
 pub mod Sides
@@ -5,13 +6,12 @@ pub mod Slots
 pub mod Sends
 pub mod Allocates
 pub mod Destroys
+pub mod Reclaims
 pub mod Others
 pub mod RunSound
 pub mod CleanStep
+pub mod Makers
 pub mod Runs
 pub mod Start
 pub mod TwoRuns
 pub mod Nonsense
-pub mod Witness
-pub mod Unlisted
-pub mod EmptyCopies

@@ -1,7 +1,7 @@
 -- The step of an actor that is not clean (also a dead, passive, unborn or out-of-range one): under the invariant, any request of
 -- such an actor leaves every clean record and slot as it was and keeps the invariant with the same clean objects. With nobody
 -- clean this is: every step from a sound table gives a sound table. Assumes nothing.
-use mathlib.Core.Path.{_≡_, refl}
+use mathlib.Core.Path.{_≡_, refl, subst}
 use mathlib.Core.Bool.{true, false}
 use Prim.Native.Nat.{ℕ}
 use Rattle.mask.proofs.Tests.{byCases, clash}
@@ -9,9 +9,9 @@ use Rattle.table.specs.declared.Table.{Table}
 use Rattle.table.specs.Soundness.{sound}
 use Rattle.table.proofs.Cells.{Sized}
 use Rattle.table.proofs.SoundFacts.{Sound, sound-facts, sound-true}
-use Rattle.requests.specs.Asks.{Ask, read, write, fetch, store, revoke, send, allocate, destroy, unknown, actorOf}
+use Rattle.requests.specs.Asks.{Ask, read, write, fetch, store, revoke, send, allocate, destroy, reclaim, unknown, actorOf}
 use Rattle.refusals.specs.Replies.{isDone}
-use Rattle.refusals.specs.Refusals.{badField, refusal}
+use Rattle.refusals.specs.Refusals.{badField, refusal, targetOf}
 use Rattle.effects.specs.Effects.{effect}
 use Rattle.steps.specs.Steps.{after}
 use Rattle.steps.proofs.Refused.{refused-keeps, done-effects}
@@ -23,6 +23,8 @@ use Rattle.isolation.proofs.Slots.{read-isolated, read-out, write-isola
 use Rattle.isolation.proofs.Sends.{send-isolated, send-out}
 use Rattle.isolation.proofs.Allocates.{allocate-isolated, allocate-out}
 use Rattle.isolation.proofs.Destroys.{destroy-isolated, destroy-out}
+use Rattle.isolation.proofs.Reclaims.{reclaim-isolated, reclaim-dirty, reclaim-out}
+use Rattle.isolation.proofs.Sides.{setting-same}
 
 -- a code with no request is never done
 pub unknown-refused : {P : Type 0} (t : Table) (k a : ℕ) → isDone (refusal t (unknown k a)) ≡ true → P
@@ -38,6 +40,10 @@ effect-outside t C (revoke a s j) v c e = (revoke-isolated t C v a s j e, revoke
 effect-outside t C (send a s w l y) v c e = (send-isolated t C v a s w l y e, send-out t C v a s w l y e c)
 effect-outside t C (allocate a n k p i l) v c e = (allocate-isolated t C v a n k p i l e c, allocate-out t C v a n k p i l e c)
 effect-outside t C (destroy a s) v c e = (destroy-isolated t C v a s e, destroy-out t C v a s e c)
+effect-outside t C (reclaim a s) v c e = (
+  subst (Isolated (effect t (reclaim a s))) (setting-same C (targetOf t a s) false (reclaim-dirty t C v a s e c)) (reclaim-isolated t C v a s e),
+  reclaim-out t C v a s e c,
+)
 effect-outside t C (unknown k a) v c e = unknown-refused t k a e
 
 pub other-step : (t : Table) (C : Clean) (q : Ask) → Isolated t C → C (actorOf q) ≡ false → Isolated (after t q) C × AgreeOn C t (after t q)

@@ -7,6 +7,7 @@ use Prim.Native.Nat.{ℕ, zero, suc}
 use native.Mathlib.Omega.{arith}
 use lib.Dec.{eqb}
 use lib.ListN.{getD}
+use Rattle.mask.proofs.Tests.{byCases}
 use Rattle.table.specs.declared.Capability.{Capability}
 use Rattle.table.specs.declared.Record.{Record}
 use Rattle.table.specs.declared.Table.{Table}
@@ -15,10 +16,10 @@ use Rattle.table.specs.Soundness.{sound}
 use Rattle.table.proofs.Cells.{Sized}
 use Rattle.table.proofs.SoundFacts.{Sound, sound-facts, sound-true}
 use Rattle.refusals.specs.declared.Reply.{Reply}
-use Rattle.refusals.specs.declared.Reply.the-variants.{Done, FieldInvalid, ActorUnfit, SlotEmpty, TargetDead, RightAbsent, TargetPassive, ActorItself, NotInStock}
-use Rattle.requests.specs.Asks.{Ask, read, write, fetch, store, revoke, send, allocate, destroy, unknown, actorOf}
+use Rattle.refusals.specs.declared.Reply.the-variants.{Done, FieldInvalid, ActorUnfit, SlotEmpty, RightAbsent, TargetPassive, ActorItself, NotInStock}
+use Rattle.requests.specs.Asks.{Ask, read, write, fetch, store, revoke, send, allocate, destroy, reclaim, unknown, actorOf}
 use Rattle.refusals.specs.Replies.{number}
-use Rattle.refusals.specs.Refusals.{refuse, badField, unfit, notInStock, targetOf, targetRecord, otherStatus, through, throughSlot, laterRows, refusal}
+use Rattle.refusals.specs.Refusals.{refuse, badField, unfit, notInStock, targetOf, targetRecord, alive, otherStatus, wrongStatus, through, throughSlot, laterRows, refusal}
 use Rattle.steps.specs.Steps.{after, runTable, runReplies}
 use Rattle.isolation.proofs.Others.{sound-step}
 
@@ -26,9 +27,13 @@ refuse-not : (cause : Bool) (why rest : Reply) → number why ≢ 1 → number r
 refuse-not true why rest p q = p
 refuse-not false why rest p q = q
 
+wrong-not : (wanted : ℕ) → number (wrongStatus wanted) ≢ 1
+unfolding wrongStatus
+wrong-not wanted = byCases (eqb wanted alive) (λ q. rw (q, wrongStatus) (λ e. omega arith)) (λ q. rw (q, wrongStatus) (λ e. omega arith))
+
 through-not : (c : Capability) (r : Record) (wanted : ℕ) (able : Bool) (rest : Reply) → number rest ≢ 1 → number (through c r wanted able rest) ≢ 1
 unfolding through
-through-not c r wanted able rest h = refuse-not (isEmpty c) SlotEmpty _ (λ e. omega arith) (refuse-not (otherStatus wanted r) TargetDead _ (λ e. omega arith) (refuse-not (not able) RightAbsent rest (λ e. omega arith) h))
+through-not c r wanted able rest h = refuse-not (isEmpty c) SlotEmpty _ (λ e. omega arith) (refuse-not (otherStatus wanted r) (wrongStatus wanted) _ (wrong-not wanted) (refuse-not (not able) RightAbsent rest (λ e. omega arith) h))
 
 later-not : (t : Table) (q : Ask) → number (laterRows t q) ≢ 1
 unfolding laterRows throughSlot
@@ -40,6 +45,7 @@ later-not t (revoke a s j) = through-not _ _ _ _ Done (λ e. omega arith)
 later-not t (send a s w l y) = through-not _ _ _ _ _ (refuse-not (not (isActive (targetRecord t a s))) TargetPassive Done (λ e. omega arith) (λ e. omega arith))
 later-not t (allocate a n k p i l) = refuse-not (notInStock n p (stockAt t a)) NotInStock Done (λ e. omega arith) (λ e. omega arith)
 later-not t (destroy a s) = through-not _ _ _ _ _ (refuse-not (eqb (targetOf t a s) a) ActorItself Done (λ e. omega arith) (λ e. omega arith))
+later-not t (reclaim a s) = through-not _ _ _ _ Done (λ e. omega arith)
 later-not t (unknown k a) = λ e. omega arith
 
 -- a sound table is never answered 1

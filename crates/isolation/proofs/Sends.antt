@@ -14,12 +14,12 @@ use Rattle.rights.specs.declared.Need.the-variants.{Send}
 use Rattle.requests.specs.declared.Pair.{Pair}
 use Rattle.requests.specs.Asks.{send}
 use Rattle.refusals.specs.Replies.{isDone}
-use Rattle.refusals.specs.Refusals.{noObject, noSlot, laterRows, refusal, targetOf}
+use Rattle.refusals.specs.Refusals.{alive, noObject, noSlot, laterRows, refusal, targetOf}
 use Rattle.effects.specs.Effects.{withWord, sent, effect}
 use Rattle.copies.specs.Copies.{copyPairs}
 use Rattle.isolation.specs.Clean.{Clean}
 use Rattle.isolation.specs.Demand.{AgreeOn}
-use Rattle.isolation.proofs.Invariant.{Isolated, putRecord-isolated, agree-record-out, agree-trans, agree-record}
+use Rattle.isolation.proofs.Invariant.{Isolated, putRecord-isolated, fields-word, agree-record-out, agree-trans, agree-record}
 use Rattle.copies.proofs.Pairs.{copies-record, copies-sized}
 use Rattle.steps.proofs.Granted.{past-checks, Granted, granted, Ranged, ranged, send-list}
 use Rattle.isolation.proofs.Sides.{clean-target, same-side, weak-no-send, fits-word}
@@ -29,9 +29,9 @@ module _ (t : Table) (C : Clean) (v : Isolated t C) (a s w : ℕ) (ps : List Pai
   send-fields : ((noObject a || noSlot s) ≡ false) × Ranged ps
   send-fields = let q = send-list a s w ps y (past-checks t (send a s w ps y) e .fields) in (q .0, ranged ps (q .1))
 
-  send-granted : Granted t a s Send
+  send-granted : Granted t a s alive Send
   unfolding laterRows
-  send-granted = let r = past-checks t (send a s w ps y) e in granted t a s Send _ (v .sound) (send-fields .0) (r .alive) (r .later) .0
+  send-granted = let r = past-checks t (send a s w ps y) e in granted t a s alive Send _ (v .sound) (send-fields .0) (r .alive) (r .later) .0
 
   worded : Table
   worded = putRecord t (targetOf t a s) (withWord (recordAt t (targetOf t a s)) w)
@@ -84,4 +84,4 @@ module _ (C : Clean) (t u : Table) (v : Isolated t C) (w : Isolated u C) (ag : A
       let zt = sized-putRecord t _ _ (v .sound .size) in
       let zu = sized-putRecord u _ _ (w .sound .size) in
       rw (← (ag .slots a s (g .slot) c), targetOf) (answer-both _ _ C _ y a (copies-sized _ _ _ ps zt) (copies-sized _ _ _ ps zu)
-      (copies-both r _ _ C _ _ _ zt zu (agree-record C t u (v .sound .size) (w .sound .size) ag _ (g .target) _ _ (cc q)) (g .target) o (λ i hi. ag .slots a i hi c)) (g .target))
+      (copies-both r _ _ C _ _ _ zt zu (agree-record C t u (v .sound .size) (w .sound .size) ag _ (g .target) _ _ (fields-word _ _ q refl)) (g .target) o (λ i hi. ag .slots a i hi c)) (g .target))

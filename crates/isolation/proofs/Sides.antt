@@ -1,11 +1,11 @@
 -- On which side of the clean objects a request's target stands, which records fit, and what a fetch brings. Assumes nothing.
-use mathlib.Core.Path.{_≡_, refl, sym, _∙_}
+use mathlib.Core.Path.{_≡_, refl, sym, _∙_, ap, fun-ext}
 use mathlib.Core.Logic.{_≢_}
-use mathlib.Core.Bool.{true, false}
+use mathlib.Core.Bool.{Bool, true, false}
 use Prim.Native.Nat.{ℕ, _≤_, _<_}
 use native.Mathlib.Omega.{arith}
 use Rattle.mask.specs.Sets.{has}
-use Rattle.mask.proofs.Tests.{byCases, clash}
+use Rattle.mask.proofs.Tests.{byCases, byEq, clash}
 use Rattle.table.specs.declared.Record.{Record}
 use Rattle.table.specs.declared.Table.{Table}
 use Rattle.table.specs.Cells.{noMaker, recordAt, statusAt, stockAt}
@@ -15,9 +15,16 @@ use Rattle.rights.specs.declared.Need.{Need}
 use Rattle.rights.specs.Rows.{rows, worthOf, needMet}
 use Rattle.refusals.specs.Refusals.{targetOf}
 use Rattle.effects.specs.Effects.{withWord}
-use Rattle.isolation.specs.Clean.{Clean}
+use Rattle.isolation.specs.Clean.{Clean, setting}
+use Rattle.isolation.proofs.Latest.{set-there, set-beside}
 use Rattle.isolation.proofs.Invariant.{wkAlone, Isolated, RecordFits}
 use Rattle.steps.proofs.Granted.{Granted}
+
+-- a set in which a number is what it was
+pub setting-same : (C : Clean) (n : ℕ) (b : Bool) → C n ≡ b → setting n b C ≡ C
+setting-same C n b e = fun-ext (λ m. byEq m n
+    (λ q. set-there C n m b q ∙ sym (ap C q ∙ e))
+    (set-beside C n m b))
 
 -- wk alone reads, and neither writes nor sends
 pub weak-no-write : needMet Write wkAlone ≡ false
@@ -29,7 +36,7 @@ unfolding rows worthOf needMet
 weak-no-send = refl
 
 -- where the target is ---------------------------------------------------------------
-module _ (t : Table) (C : Clean) (v : Isolated t C) (a s : ℕ) (need : Need) (g : Granted t a s need) where
+module _ (t : Table) (C : Clean) (v : Isolated t C) (a s : ℕ) {wanted : ℕ} (need : Need) (g : Granted t a s wanted need) where
   pub clean-target : C a ≡ true → C (targetOf t a s) ≡ true
   clean-target c = v .inside a s (g .slot) c (g .filled)
 

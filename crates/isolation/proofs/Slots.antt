@@ -1,24 +1,25 @@
 -- Read, write, fetch, store and revoke, answered 0: each keeps the invariant; from an actor that is not clean it leaves every
 -- clean object as it was; from a clean actor it keeps two agreeing tables in agreement. Assumes nothing.
-use mathlib.Core.Path.{_≡_, refl, ap}
+use mathlib.Core.Path.{_≡_, refl, ap, _∙_}
 use mathlib.Core.Bool.{true, false, _||_}
 use Prim.Native.Nat.{ℕ, _<_}
 use native.Mathlib.Omega.{arith}
 use Rattle.mask.proofs.Tests.{byCases, clash, or-none}
+use Rattle.table.specs.declared.Capability.{Capability}
 use Rattle.table.specs.declared.Table.{Table}
-use Rattle.table.specs.Cells.{slotAt, hasRd}
+use Rattle.table.specs.Cells.{recordAt, slotAt, hasRd}
 use Rattle.table.proofs.Cells.{Sized}
 use Rattle.rights.specs.declared.Need.the-variants.{ReadOrWeak, Write}
 use Rattle.refusals.specs.declared.Reply.the-variants.{Done}
 use Rattle.requests.specs.Asks.{read, write, fetch, store, revoke}
 use Rattle.refusals.specs.Replies.{isDone}
-use Rattle.refusals.specs.Refusals.{noObject, noSlot, badField, laterRows, refusal, targetOf, rightsOf}
+use Rattle.refusals.specs.Refusals.{noObject, noSlot, badField, alive, laterRows, refusal, targetOf, rightsOf}
 use Rattle.effects.specs.Effects.{effect}
 use Rattle.copies.specs.Copies.{fetched}
 use Rattle.copies.proofs.Fetches.{fetched-elim}
 use Rattle.isolation.specs.Clean.{Clean}
 use Rattle.isolation.specs.Demand.{AgreeOn}
-use Rattle.isolation.proofs.Invariant.{Isolated, SlotFits, putSlot-isolated, putRecord-isolated, agree-record-out, agree-slot-out, agree-record, agree-slot}
+use Rattle.isolation.proofs.Invariant.{Isolated, SlotFits, putSlot-isolated, putRecord-isolated, fields-word, agree-record-out, agree-slot-out, agree-record, agree-slot}
 use Rattle.refusals.proofs.Rows.{slot-placed}
 use Rattle.steps.proofs.Granted.{past-checks, Granted, granted, revoke-slot}
 use Rattle.isolation.proofs.Sides.{clean-target, dirty-target, same-side, weak-no-write, fits-word}
@@ -33,9 +34,9 @@ two-slots a s i j e =
 
 -- read ----------------------------------------------------------------------------
 module _ (t : Table) (C : Clean) (v : Isolated t C) (a s : ℕ) (e : isDone (refusal t (read a s)) ≡ true) where
-  read-granted : Granted t a s ReadOrWeak
+  read-granted : Granted t a s alive ReadOrWeak
   unfolding badField laterRows
-  read-granted = let r = past-checks t (read a s) e in granted t a s ReadOrWeak Done (v .sound) (r .fields) (r .alive) (r .later) .0
+  read-granted = let r = past-checks t (read a s) e in granted t a s alive ReadOrWeak Done (v .sound) (r .fields) (r .alive) (r .later) .0
 
   pub read-isolated : Isolated (effect t (read a s)) C
   unfolding effect
@@ -47,9 +48,9 @@ module _ (t : Table) (C : Clean) (v : Isolated t C) (a s : ℕ) (e : isDone (ref
 
 -- write ---------------------------------------------------------------------------
 module _ (t : Table) (C : Clean) (v : Isolated t C) (a s w : ℕ) (e : isDone (refusal t (write a s w)) ≡ true) where
-  write-granted : Granted t a s Write
+  write-granted : Granted t a s alive Write
   unfolding badField laterRows
-  write-granted = let r = past-checks t (write a s w) e in granted t a s Write Done (v .sound) (r .fields) (r .alive) (r .later) .0
+  write-granted = let r = past-checks t (write a s w) e in granted t a s alive Write Done (v .sound) (r .fields) (r .alive) (r .later) .0
 
   pub write-isolated : Isolated (effect t (write a s w)) C
   unfolding effect
@@ -65,9 +66,9 @@ module _ (t : Table) (C : Clean) (v : Isolated t C) (a s i j : ℕ) (e : isDone 
   unfolding badField
   fetch-fields = two-slots a s i j (past-checks t (fetch a s i j) e .fields)
 
-  fetch-granted : Granted t a s ReadOrWeak
+  fetch-granted : Granted t a s alive ReadOrWeak
   unfolding laterRows
-  fetch-granted = let r = past-checks t (fetch a s i j) e in granted t a s ReadOrWeak Done (v .sound) (fetch-fields .0) (r .alive) (r .later) .0
+  fetch-granted = let r = past-checks t (fetch a s i j) e in granted t a s alive ReadOrWeak Done (v .sound) (fetch-fields .0) (r .alive) (r .later) .0
 
   -- through wk alone nothing but wk comes out, and what an outsider reads through is not clean unless it is through wk alone
   fetch-fits : SlotFits t C a (fetched (rightsOf t a s) (slotAt t (targetOf t a s) i))
@@ -106,9 +107,9 @@ module _ (t : Table) (C : Clean) (v : Isolated t C) (a s i j : ℕ) (e : isDone 
   unfolding badField
   store-fields = two-slots a s i j (past-checks t (store a s i j) e .fields)
 
-  store-granted : Granted t a s Write
+  store-granted : Granted t a s alive Write
   unfolding laterRows
-  store-granted = let r = past-checks t (store a s i j) e in granted t a s Write Done (v .sound) (store-fields .0) (r .alive) (r .later) .0
+  store-granted = let r = past-checks t (store a s i j) e in granted t a s alive Write Done (v .sound) (store-fields .0) (r .alive) (r .later) .0
 
   pub store-isolated : Isolated (effect t (store a s i j)) C
   unfolding effect
@@ -124,9 +125,9 @@ module _ (t : Table) (C : Clean) (v : Isolated t C) (a s j : ℕ) (e : isDone (r
   revoke-fields : ((noObject a || noSlot s) ≡ false) × (j < 8)
   revoke-fields = revoke-slot a s j (past-checks t (revoke a s j) e .fields)
 
-  revoke-granted : Granted t a s Write
+  revoke-granted : Granted t a s alive Write
   unfolding laterRows
-  revoke-granted = let r = past-checks t (revoke a s j) e in granted t a s Write Done (v .sound) (revoke-fields .0) (r .alive) (r .later) .0
+  revoke-granted = let r = past-checks t (revoke a s j) e in granted t a s alive Write Done (v .sound) (revoke-fields .0) (r .alive) (r .later) .0
 
   pub revoke-isolated : Isolated (effect t (revoke a s j)) C
   unfolding effect
@@ -150,7 +151,7 @@ module _ (C : Clean) (t u : Table) (v : Isolated t C) (w : Isolated u C) (ag : A
       let g = read-granted t C v a s e in
       let p = ag .slots a s (g .slot) c in
       let q = ag .records _ (clean-target t C v a s ReadOrWeak g c) in
-      agree-record C t u zt zu ag a (g .actor) _ _ (cc (p, q, ag .records a c))
+      agree-record C t u zt zu ag a (g .actor) _ _ (fields-word _ _ (ag .records a c) (q .word ∙ ap (λ (k : Capability). recordAt u (k .target) .word) p))
 
   pub write-both : (a s x : ℕ) → C a ≡ true → isDone (refusal t (write a s x)) ≡ true → AgreeOn C (effect t (write a s x)) (effect u (write a s x))
   unfolding effect
@@ -158,7 +159,7 @@ module _ (C : Clean) (t u : Table) (v : Isolated t C) (w : Isolated u C) (ag : A
       let g = write-granted t C v a s x e in
       let p = ag .slots a s (g .slot) c in
       let q = ag .records _ (clean-target t C v a s Write g c) in
-      rw (← p, targetOf) (agree-record C t u zt zu ag _ (g .target) _ _ (cc q))
+      rw (← p, targetOf) (agree-record C t u zt zu ag _ (g .target) _ _ (fields-word _ _ q refl))
 
   pub fetch-both : (a s i j : ℕ) → C a ≡ true → isDone (refusal t (fetch a s i j)) ≡ true → AgreeOn C (effect t (fetch a s i j)) (effect u (fetch a s i j))
   unfolding effect

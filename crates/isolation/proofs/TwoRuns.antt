@@ -1,6 +1,6 @@
 -- Demand 3, proved: two runs from tables that agree outside an accepted set of members, whose requests from clean objects are
 -- equal field for field and in order, end with the same clean objects, with equal records and slots of them, and gave the same
--- replies to their requests. What a reader asks next stands below it, of one run from an accepted test:
+-- replies to their requests; of the makers those bytes are equal that are compared. What a reader asks next stands below it, of one run from an accepted test:
 -- (a) with every other request left out, the clean records and the replies to clean requests are the same;
 -- (b) a clean object never comes to hold a capability over an object that is not clean;
 -- (c) no object that is not clean ever holds more than wk over a clean one.
@@ -30,9 +30,10 @@ use Rattle.confinement.proofs.TestFacts.{accepted-facts}
 use Rattle.requests.specs.Asks.{Ask}
 use Rattle.steps.specs.Steps.{runTable}
 use Rattle.relation.proofs.Tables.{part-same}
-use Rattle.isolation.specs.Clean.{Clean, cleanAtStart, cleanAtEnd, cleanRequests, cleanReplies}
-use Rattle.isolation.specs.Demand.{AgreeOn, Alike, TwoRuns, SameMakers}
-use Rattle.isolation.proofs.Invariant.{wkAlone, Isolated, agree-refl}
+use Rattle.isolation.specs.Clean.{Clean, cleanAtStart, cleanAtEnd, cleanRequests, cleanReplies, comparedAtStart}
+use Rattle.isolation.specs.Demand.{AgreeOn, Alike, TwoRuns}
+use Rattle.isolation.proofs.Invariant.{wkAlone, Isolated, fields-same, agree-refl}
+use Rattle.isolation.proofs.Makers.{Traced, start-known}
 use Rattle.isolation.proofs.Runs.{Shared, shadow, runs-alike, run-isolated}
 use Rattle.isolation.proofs.Start.{start-isolated}
 
@@ -66,14 +67,22 @@ module _ (t u : Table) (members : ℕ) (list : List Capability) (agree : AgreeOu
 
   agree-start : AgreeOn (cleanAtStart t members list) t u
   agree-start = record {
-    records = λ n h. let o = clean-out t members list n h in agree .records n (o .0) (o .1);
+    records = λ n h. let o = clean-out t members list n h in fields-same (agree .records n (o .0) (o .1));
     slots = λ n j hj h. let o = clean-out t members list n h in agree .slots n j (o .0) hj (o .1);
   }
 
-shared-alike : (t u : Table) (C D : Clean) (ps qs : List Ask) → C ≡ D → Shared t u C ps qs → Alike t u C D ps qs
-shared-alike t u C D ps qs e s = record {
+  -- makers too: they are a field of the record
+  traced-start : Traced (cleanAtStart t members list) (comparedAtStart t (cleanAtStart t members list)) t u
+  traced-start = record {
+    same = λ n h b. let o = clean-out t members list n h in ap (λ (r : Record). r .maker) (agree .records n (o .0) (o .1));
+    known = λ n h b. start-known t (cleanAtStart t members list) n b;
+  }
+
+shared-alike : (t u : Table) (C D : Clean) (ps qs : List Ask) → C ≡ D → Traced C (comparedAtStart t C) t u → Shared t u C ps qs → Alike t u C D ps qs
+shared-alike t u C D ps qs e m s = record {
   clean = λ n. ap (λ (E : Clean). E n) (s .clean ∙ ap (λ (E : Clean). cleanAtEnd u E qs) e);
   cells = s .cells;
+  makers = s .makers (comparedAtStart t C) m;
   replies = s .replies ∙ ap (λ (E : Clean). cleanReplies u E qs) e;
 }
 
@@ -85,7 +94,7 @@ two-runs t u members list b =
     record {
       bound = bound-same members t u (b .agree) list;
       rounds = rounds-blind members t u (b .agree) list;
-      runs = λ ps qs e. shared-alike t u C (cleanAtStart u members list) ps qs same
+      runs = λ ps qs e. shared-alike t u C (cleanAtStart u members list) ps qs same (traced-start t u members list (b .agree))
           (runs-alike t u C ps qs
           (accepted-isolated t members list (b .left) (b .accepted-left))
           (subst (λ (E : Clean). Isolated u E) (sym same) (accepted-isolated u members list (b .right) (b .accepted-right)))
@@ -93,17 +102,12 @@ two-runs t u members list b =
           (e ∙ ap (λ (E : Clean). cleanRequests u E qs) (sym same)));
     }
 
--- the maker is a field of the record
-pub same-makers : SameMakers
-unfolding SameMakers TwoRuns
-same-makers t u members list b ps qs e n c = ap (λ (r : Record). r .maker) (two-runs t u members list b .runs ps qs e .cells .records n c)
-
 module _ (t : Table) (members : ℕ) (list : List Capability) (value : IsTable t) (accepted : verdictNumber (verdictOf t members list) ≡ 0) (qs : List Ask) where
   -- (a)
   pub others-left-out : Alike t t (cleanAtStart t members list) (cleanAtStart t members list) qs (cleanRequests t (cleanAtStart t members list) qs)
   others-left-out =
       let v = accepted-isolated t members list value accepted in
-      shared-alike t t _ _ qs _ refl (shadow qs t t _ v v (agree-refl _ t))
+      shared-alike t t _ _ qs _ refl (record { same = λ n h b. refl; known = λ n h b. start-known t _ n b }) (shadow qs t t _ v v (agree-refl _ t))
 
   at-end : Isolated (runTable t qs) (cleanAtEnd t (cleanAtStart t members list) qs)
   at-end = run-isolated qs t _ (accepted-isolated t members list value accepted)

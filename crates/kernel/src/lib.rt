@@ -1,9 +1,11 @@
-// The step, document 01: a table and a request in, the reply and the table out. Here are the three requests that change more than one
+// The step, document 01: a table and a request in, the reply and the table out. Here are the four requests that change more than one
 // cell, on a table that is sound when it comes here, and the choice by the request.
 use effects::allocated;
 use effects::destroyed;
+use effects::reclaimed;
 use effects::sent;
 use refusals::ALIVE;
+use refusals::DEAD;
 use refusals::Reply;
 use refusals::check_slot;
 use refusals::list_bad;
@@ -18,7 +20,7 @@ ghost use mathlib.Core.Bool.{true};
 ghost use Prim.Native.Nat.{_<_};
 ghost use Rattle.table.specs.Cells.{recordAt};
 ghost use Rattle.table.specs.Soundness.{sound};
-ghost use Rattle.requests.specs.Asks.{askOf, pairsOf, send as sendAsk, allocate as allocateAsk, destroy as destroyAsk};
+ghost use Rattle.requests.specs.Asks.{askOf, pairsOf, send as sendAsk, allocate as allocateAsk, destroy as destroyAsk, reclaim as reclaimAsk};
 ghost use Rattle.steps.specs.Steps.{stepOf};
 
 // The word, the pairs and the reply slot go to an active target.
@@ -115,6 +117,27 @@ fn destroy(t: Table, actor: u8, s: u8) -> Stepped
     }
 }
 
+// The number of a dead target becomes unborn and joins the actor's stock.
+fn reclaim(t: Table, actor: u8, s: u8) -> Stepped
+    requires { ⌜ sound t ≡ true ⌝ }
+    ensures { λ r. ⌜ r ≡ stepOf t (reclaimAsk actor s) ⌝ }
+{
+    let v = check_slot(t, actor, s, false, DEAD, Need::Write);
+    let why = v.reply;
+    if !v.done {
+        return Stepped {
+            reply: why,
+            table: t,
+        };
+    }
+    let g = v.target;
+    let u = reclaimed(t, actor, g);
+    Stepped {
+        reply: Reply::Done,
+        table: u,
+    }
+}
+
 // One request on a table: the reply, and the table after it. A refused request gives back the very table.
 pub fn step(t: Table, request: Request, list: PairList) -> Stepped
     ensures { λ r. ⌜ r ≡ stepOf t (askOf request list) ⌝ }
@@ -145,6 +168,7 @@ pub fn step(t: Table, request: Request, list: PairList) -> Stepped
             i,
         } => allocate(t, actor, n, kind, part, i, list),
         Request::Destroy { actor, t: s } => destroy(t, actor, s),
+        Request::Reclaim { actor, t: s } => reclaim(t, actor, s),
         Request::Unknown { code: _, actor: _ } => Stepped {
             reply: Reply::FieldInvalid,
             table: t,

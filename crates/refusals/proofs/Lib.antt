@@ -2,3 +2,4 @@
 pub mod Targets
 pub mod Lists
 pub mod Rows
+pub mod Blind

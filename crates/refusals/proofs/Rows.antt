@@ -1,12 +1,13 @@
 -- Rows 2 to 6 for a slot, by their five tests: what the check of a slot tells of them, and that a last check after them decides
 -- exactly where it says "done". By the cases of the five tests. Assumes nothing.
 use mathlib.Core.Path.{_≡_, refl, sym, _∙_, ap, ap₂}
+use mathlib.Core.Logic.{_≢_}
 use mathlib.Core.Bool.{Bool, true, false, not, _&&_, _||_, false≢true}
 use Prim.Native.Nat.{ℕ, _≤_, _<_}
 use native.Mathlib.Omega.{arith}
 use lib.Dec.{eqb}
-use borrow.Author.Tests.{ltb-false, ne-eqb}
-use Rattle.mask.proofs.Tests.{byEq, clash, and-intro, or-none}
+use borrow.Author.Tests.{ltb-false, eq-eqb, ne-eqb}
+use Rattle.mask.proofs.Tests.{byCases, byEq, clash, and-intro, or-none}
 use Rattle.table.specs.declared.Record.{Record}
 use Rattle.table.specs.declared.Table.{Table}
 use Rattle.table.specs.Cells.{recordAt, slotAt, isEmpty, isBorn}
@@ -16,10 +17,10 @@ use Rattle.table.proofs.SoundFacts.{pos-born}
 use Rattle.rights.specs.declared.Need.{Need}
 use Rattle.rights.specs.Rows.{needMet}
 use Rattle.refusals.specs.declared.Reply.{Reply}
-use Rattle.refusals.specs.declared.Reply.the-variants.{Done, FieldInvalid, ActorUnfit, SlotEmpty, TargetDead, RightAbsent}
+use Rattle.refusals.specs.declared.Reply.the-variants.{Done, FieldInvalid, ActorUnfit, SlotEmpty, TargetDead, RightAbsent, TargetAlive}
 use Rattle.refusals.specs.declared.SlotCheck.{SlotCheck}
 use Rattle.refusals.specs.Replies.{isDone}
-use Rattle.refusals.specs.Refusals.{refuse, noObject, noSlot, unfit, otherStatus, through, targetOf, targetRecord, rightsOf, throughSlot}
+use Rattle.refusals.specs.Refusals.{refuse, noObject, noSlot, unfit, alive, otherStatus, wrongStatus, through, targetOf, targetRecord, rightsOf, throughSlot}
 use Rattle.refusals.specs.Helpers.{firstOf, badPlace, slotRows, slotCheckOf, SlotChecked}
 use Rattle.refusals.proofs.Targets.{target-below}
 
@@ -31,34 +32,48 @@ pub refuse-no : (b : Bool) (why rest : Reply) → b ≡ false → refuse b why r
 refuse-no b why rest e = rw e refl
 
 -- five tests in a row, and a last check after them --------------------------------------------------
-abbrev firstThen : Bool → Bool → Bool → Bool → Bool → Reply → Reply
-firstThen bad unfitted empty other unable last =
-    refuse bad FieldInvalid (refuse unfitted ActorUnfit (refuse empty SlotEmpty (refuse other TargetDead (refuse unable RightAbsent last))))
+-- the row of the wrong status turns down, whichever it is
+pub wrong-refuses : (wanted : ℕ) → isDone (wrongStatus wanted) ≡ false
+unfolding wrongStatus
+wrong-refuses wanted = byCases (eqb wanted alive) (λ e. rw (e, wrongStatus) refl) (λ e. rw (e, wrongStatus) refl)
 
-then-last : (bad unfitted empty other unable : Bool) (last : Reply) → isDone (firstOf bad unfitted empty other unable) ≡ true
-    → firstThen bad unfitted empty other unable last ≡ last
-then-last true unfitted empty other unable last e = absurd (false≢true e)
-then-last false true empty other unable last e = absurd (false≢true e)
-then-last false false true other unable last e = absurd (false≢true e)
-then-last false false false true unable last e = absurd (false≢true e)
-then-last false false false false true last e = absurd (false≢true e)
-then-last false false false false false last e = refl
+pub wrong-dead : (wanted : ℕ) → wanted ≡ alive → TargetDead ≡ wrongStatus wanted
+unfolding wrongStatus
+wrong-dead wanted e = rw (eq-eqb wanted alive e, wrongStatus) refl
 
-then-first : (bad unfitted empty other unable : Bool) (last : Reply) → isDone (firstOf bad unfitted empty other unable) ≡ false
-    → firstThen bad unfitted empty other unable last ≡ firstOf bad unfitted empty other unable
-then-first true unfitted empty other unable last e = refl
-then-first false true empty other unable last e = refl
-then-first false false true other unable last e = refl
-then-first false false false true unable last e = refl
-then-first false false false false true last e = refl
-then-first false false false false false last e = absurd (false≢true (sym e))
+pub wrong-alive : (wanted : ℕ) → wanted ≢ alive → TargetAlive ≡ wrongStatus wanted
+unfolding wrongStatus
+wrong-alive wanted e = rw (ne-eqb wanted alive e, wrongStatus) refl
 
-first-done : (unfitted empty other unable : Bool) → not (unfitted || empty || other || unable) ≡ isDone (firstOf false unfitted empty other unable)
-first-done true empty other unable = refl
-first-done false true other unable = refl
-first-done false false true unable = refl
-first-done false false false true = refl
-first-done false false false false = refl
+module _ (why : Reply) (turns : isDone why ≡ false) where
+  abbrev firstThen : Bool → Bool → Bool → Bool → Bool → Reply → Reply
+  firstThen bad unfitted empty other unable last =
+      refuse bad FieldInvalid (refuse unfitted ActorUnfit (refuse empty SlotEmpty (refuse other why (refuse unable RightAbsent last))))
+
+  then-last : (bad unfitted empty other unable : Bool) (last : Reply) → isDone (firstOf bad unfitted empty other why unable) ≡ true
+      → firstThen bad unfitted empty other unable last ≡ last
+  then-last true unfitted empty other unable last e = absurd (false≢true e)
+  then-last false true empty other unable last e = absurd (false≢true e)
+  then-last false false true other unable last e = absurd (false≢true e)
+  then-last false false false true unable last e = clash e turns
+  then-last false false false false true last e = absurd (false≢true e)
+  then-last false false false false false last e = refl
+
+  then-first : (bad unfitted empty other unable : Bool) (last : Reply) → isDone (firstOf bad unfitted empty other why unable) ≡ false
+      → firstThen bad unfitted empty other unable last ≡ firstOf bad unfitted empty other why unable
+  then-first true unfitted empty other unable last e = refl
+  then-first false true empty other unable last e = refl
+  then-first false false true other unable last e = refl
+  then-first false false false true unable last e = refl
+  then-first false false false false true last e = refl
+  then-first false false false false false last e = absurd (false≢true (sym e))
+
+  first-done : (unfitted empty other unable : Bool) → not (unfitted || empty || other || unable) ≡ isDone (firstOf false unfitted empty other why unable)
+  first-done true empty other unable = refl
+  first-done false true other unable = refl
+  first-done false false true unable = sym turns
+  first-done false false false true = refl
+  first-done false false false false = refl
 
 -- what the check of a slot tells -------------------------------------------------------------------------------------
 pub record Placed (a s : ℕ) (bad : Bool) : Type 0 where
@@ -106,7 +121,7 @@ unfolding slotCheckOf
 seen-place t a s bad wanted need f = rw (f, slotCheckOf) refl
 
 -- `met` and `born` are what the code found of the right and of the target
-module _ (t : Table) (a s : ℕ) (bad : Bool) (wanted : ℕ) (need : Need) (met born : Bool) (reply : Reply) where
+module _ (t : Table) (a s : ℕ) (bad : Bool) (wanted : ℕ) (need : Need) (met born : Bool) (why reply : Reply) where
   abbrev other : Bool
   other = born && not (eqb (targetRecord t a s .status) wanted)
 
@@ -120,12 +135,13 @@ module _ (t : Table) (a s : ℕ) (bad : Bool) (wanted : ℕ) (need : Need) (met 
   }
 
   pub check-seen : Sized t → sound t ≡ true → badPlace a s bad ≡ false → met ≡ needMet need (rightsOf t a s) → born ≡ isBorn (targetRecord t a s)
-      → reply ≡ firstOf false (unfit (recordAt t a)) (isEmpty (slotAt t a s)) other (not met) → SlotChecked t a s bad wanted need saw
+      → why ≡ wrongStatus wanted → reply ≡ firstOf false (unfit (recordAt t a)) (isEmpty (slotAt t a s)) other why (not met)
+      → SlotChecked t a s bad wanted need saw
   unfolding slotRows throughSlot through
-  check-seen z ok f m b e =
+  check-seen z ok f m b y e =
       let p = placed a s bad f in
-      let r : firstOf false (unfit (recordAt t a)) (isEmpty (slotAt t a s)) other (not met) ≡ slotRows t a s bad wanted need = rw (f, m, b) refl in
-      let d = first-done (unfit (recordAt t a)) (isEmpty (slotAt t a s)) other (not met) ∙ ap isDone r in
+      let r : firstOf false (unfit (recordAt t a)) (isEmpty (slotAt t a s)) other why (not met) ≡ slotRows t a s bad wanted need = rw (f, m, b, y) refl in
+      let d = first-done why (ap isDone y ∙ wrong-refuses wanted) (unfit (recordAt t a)) (isEmpty (slotAt t a s)) other (not met) ∙ ap isDone r in
       record {
         whole = seen-is (targetOf t a s) (rightsOf t a s) (targetRecord t a s .kind) (e ∙ r) d ∙ seen-place t a s bad wanted need f;
         reply = e ∙ r;
@@ -139,7 +155,7 @@ module _ (t : Table) (a s : ℕ) (bad : Bool) (wanted : ℕ) (need : Need) (met 
         within = λ h. target-below t a s z ok (p .slot);
       }
 
--- row 5 passed: a born target has the wanted status
+-- rows 5 and 24 passed: a born target has the wanted status
 pub status-wanted : (wanted : ℕ) (r : Record) → 1 ≤ r .status → r .status ≤ 2 → otherStatus wanted r ≡ false → r .status ≡ wanted
 status-wanted wanted r l h e = byEq (r .status) wanted (λ q. q)
     (λ n. clash (and-intro (isBorn r) _ (pos-born r h l) (ap not (ne-eqb (r .status) wanted n))) e)
@@ -151,12 +167,12 @@ rowsThen t a s bad wanted need last = refuse (badPlace a s bad) FieldInvalid (re
 pub rows-last : (t : Table) (a s : ℕ) (bad : Bool) (wanted : ℕ) (need : Need) (last : Reply) → isDone (slotRows t a s bad wanted need) ≡ true → rowsThen t a s bad wanted need last ≡ last
 unfolding slotRows throughSlot through
 rows-last t a s bad wanted need last e =
-    then-last (badPlace a s bad) (unfit (recordAt t a)) (isEmpty (slotAt t a s)) (otherStatus wanted (targetRecord t a s)) (not (needMet need (rightsOf t a s))) last e
+    then-last (wrongStatus wanted) (wrong-refuses wanted) (badPlace a s bad) (unfit (recordAt t a)) (isEmpty (slotAt t a s)) (otherStatus wanted (targetRecord t a s)) (not (needMet need (rightsOf t a s))) last e
 
 pub rows-first : (t : Table) (a s : ℕ) (bad : Bool) (wanted : ℕ) (need : Need) (last : Reply) → isDone (slotRows t a s bad wanted need) ≡ false → rowsThen t a s bad wanted need last ≡ slotRows t a s bad wanted need
 unfolding slotRows throughSlot through
 rows-first t a s bad wanted need last e =
-    then-first (badPlace a s bad) (unfit (recordAt t a)) (isEmpty (slotAt t a s)) (otherStatus wanted (targetRecord t a s)) (not (needMet need (rightsOf t a s))) last e
+    then-first (wrongStatus wanted) (wrong-refuses wanted) (badPlace a s bad) (unfit (recordAt t a)) (isEmpty (slotAt t a s)) (otherStatus wanted (targetRecord t a s)) (not (needMet need (rightsOf t a s))) last e
 
 pub seen-done : (t : Table) (a s : ℕ) (bad : Bool) (wanted : ℕ) (need : Need) (seen : SlotCheck) → SlotChecked t a s bad wanted need seen → seen .done ≡ true → seen .reply ≡ Done
 unfolding slotRows

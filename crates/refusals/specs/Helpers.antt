@@ -9,15 +9,15 @@ use Rattle.rights.specs.declared.Need.{Need}
 use Rattle.requests.specs.declared.PairList.{PairList}
 use Rattle.requests.specs.Asks.{pairAt}
 use Rattle.refusals.specs.declared.Reply.{Reply}
-use Rattle.refusals.specs.declared.Reply.the-variants.{Done, FieldInvalid, ActorUnfit, SlotEmpty, TargetDead, RightAbsent}
+use Rattle.refusals.specs.declared.Reply.the-variants.{Done, FieldInvalid, ActorUnfit, SlotEmpty, RightAbsent}
 use Rattle.refusals.specs.declared.SlotCheck.{SlotCheck}
 use Rattle.refusals.specs.Replies.{isDone}
 use Rattle.refusals.specs.Refusals.{refuse, noObject, noSlot, unfit, targetOf, targetRecord, rightsOf, throughSlot}
 
--- the first of rows 2 to 6 whose cause holds
-abbrev pub firstOf : Bool → Bool → Bool → Bool → Bool → Reply
-firstOf bad unfitted empty other unable =
-    refuse bad FieldInvalid (refuse unfitted ActorUnfit (refuse empty SlotEmpty (refuse other TargetDead (refuse unable RightAbsent Done))))
+-- the first of rows 2 to 6 whose cause holds; `why` is the row of a target with another status than the wanted one, 5 or 24
+abbrev pub firstOf : Bool → Bool → Bool → Bool → Reply → Bool → Reply
+firstOf bad unfitted empty other why unable =
+    refuse bad FieldInvalid (refuse unfitted ActorUnfit (refuse empty SlotEmpty (refuse other why (refuse unable RightAbsent Done))))
 
 -- row 2 for the actor and its slot s, `bad` standing for the other fields
 abbrev pub badPlace : ℕ → ℕ → Bool → Bool

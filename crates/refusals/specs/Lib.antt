@@ -1,3 +1,4 @@
 pub mod Replies
 pub mod Refusals
 pub mod Helpers
+pub mod Exactness

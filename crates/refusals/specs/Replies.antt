@@ -1,9 +1,9 @@
--- Document 01, "Why something is turned down": the number of each reply, 0 for done.
+-- Document 01, "Why something is turned down": the number of each reply, 0 for done. 24 is document 02's, 2.8.
 use mathlib.Core.Bool.{Bool}
 use Prim.Native.Nat.{ℕ}
 use lib.Dec.{eqb}
 use Rattle.refusals.specs.declared.Reply.{Reply}
-use Rattle.refusals.specs.declared.Reply.the-variants.{Done, TableUnsound, FieldInvalid, ActorUnfit, SlotEmpty, TargetDead, RightAbsent, TargetPassive, ActorItself, NotInStock}
+use Rattle.refusals.specs.declared.Reply.the-variants.{Done, TableUnsound, FieldInvalid, ActorUnfit, SlotEmpty, TargetDead, RightAbsent, TargetPassive, ActorItself, NotInStock, TargetAlive}
 
 abbrev pub number : Reply → ℕ
 number Done = 0
@@ -16,6 +16,7 @@ number RightAbsent = 6
 number TargetPassive = 7
 number ActorItself = 8
 number NotInStock = 9
+number TargetAlive = 24
 
 abbrev pub isDone : Reply → Bool
 isDone r = eqb (number r) 0

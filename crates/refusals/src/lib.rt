@@ -1,5 +1,5 @@
 // What turns a request down, document 01, "Why something is turned down": the replies, and the checks of rows 2 to 6, which
-// requests share.
+// requests share. In the place of row 5, reclaim has row 24 of document 02, 2.8.
 use requests::PairList;
 use rights::Need;
 use rights::need_met;
@@ -8,11 +8,13 @@ ghost use mathlib.Core.Path.{_≡_};
 ghost use mathlib.Core.Bool.{true};
 ghost use Rattle.table.specs.Soundness.{sound};
 ghost use Rattle.requests.specs.Asks.{pairsOf};
-ghost use Rattle.refusals.specs.Refusals.{badList};
+ghost use Rattle.refusals.specs.Refusals.{badList, wrongStatus};
 ghost use Rattle.refusals.specs.Helpers.{firstOf, SlotChecked};
 
-// The status that every request wants of its target.
+// The status that a request wants of its target: reclaim a dead one, every other an alive one.
 pub const ALIVE: u8 = 1;
+
+pub const DEAD: u8 = 2;
 
 // Done, or why a request was refused.
 pub enum Reply {
@@ -26,6 +28,7 @@ pub enum Reply {
     TargetPassive,
     ActorItself,
     NotInStock,
+    TargetAlive,
 }
 
 // What the checks of a request through a slot saw: the reply, whether it is "done", and then the slot's capability and its
@@ -56,9 +59,19 @@ pub fn list_bad(l: PairList) -> bool
         | ((3 < count) & ((7 < s.from) | (7 < s.to)))
 }
 
-// The first of rows 2 to 6 whose cause holds.
-pub fn first_of(bad: bool, unfit: bool, empty: bool, other: bool, unable: bool) -> Reply
-    ensures { λ r. ⌜ r ≡ firstOf bad unfit empty other unable ⌝ }
+// Row 5, of a target that is dead where an alive one is wanted, or row 24, the other way round.
+fn wrong_status(wanted: u8) -> Reply
+    ensures { λ r. ⌜ r ≡ wrongStatus wanted ⌝ }
+{
+    if wanted == ALIVE {
+        return Reply::TargetDead;
+    }
+    Reply::TargetAlive
+}
+
+// The first of rows 2 to 6 whose cause holds. `why` is the row of a target with another status than the wanted one.
+pub fn first_of(bad: bool, unfit: bool, empty: bool, other: bool, why: Reply, unable: bool) -> Reply
+    ensures { λ r. ⌜ r ≡ firstOf bad unfit empty other why unable ⌝ }
 {
     if bad {
         return Reply::FieldInvalid;
@@ -70,7 +83,7 @@ pub fn first_of(bad: bool, unfit: bool, empty: bool, other: bool, unable: bool) 
         return Reply::SlotEmpty;
     }
     if other {
-        return Reply::TargetDead;
+        return why;
     }
     if unable {
         return Reply::RightAbsent;
@@ -102,7 +115,8 @@ pub fn check_slot(t: Table, actor: u8, s: u8, bad: bool, wanted: u8, need: Need)
     let empty = (c.target == 0) & (c.rights == 0);
     let other = table::is_born(b) & !(b.status == wanted);
     let met = need_met(need, c.rights);
-    let reply = first_of(false, unfit, empty, other, !met);
+    let why = wrong_status(wanted);
+    let reply = first_of(false, unfit, empty, other, why, !met);
     SlotCheck {
         reply: reply,
         done: !(unfit | empty | other | !met),

@@ -5,7 +5,7 @@ use Prim.Native.Nat.{_≤_}
 use lib.ListN.{length}
 use Rattle.table.proofs.Lists.{padded-all}
 use Rattle.requests.specs.declared.Pair.{Pair}
-use Rattle.requests.specs.Asks.{Ask, read, write, fetch, store, revoke, send, allocate, destroy, unknown, pairsIn, noPair, pairsOf, askOf, requestOf, heldPairs}
+use Rattle.requests.specs.Asks.{Ask, read, write, fetch, store, revoke, send, allocate, destroy, reclaim, unknown, pairsIn, noPair, pairsOf, askOf, requestOf, heldPairs}
 
 pub held-pairs : (l : List Pair) → length l ≤ 4 → pairsOf (heldPairs l) ≡ l
 unfolding pairsOf heldPairs
@@ -21,4 +21,5 @@ held-ask (revoke a t j) h = refl
 held-ask (send a t w l y) h = ap (λ (x : List Pair). send a t w x y) (held-pairs l h)
 held-ask (allocate a n k p i l) h = ap (allocate a n k p i) (held-pairs l h)
 held-ask (destroy a t) h = refl
+held-ask (reclaim a t) h = refl
 held-ask (unknown c a) h = refl

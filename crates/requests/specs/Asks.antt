@@ -1,5 +1,5 @@
--- Document 01, "The eight requests": a request as it is written there, with its fields in the order shown and a true list of
--- pairs. Sameness of requests, field for field, is equality of these.
+-- Document 01, "The eight requests", and "A ninth request, reclaim (actor, t)" of document 02, 2.8: a request as it is written there, with
+-- its fields in the order shown and a true list of pairs. Sameness of requests, field for field, is equality of these.
 use mathlib.Core.List.{List, [], _∷_}
 use Prim.Native.Nat.{ℕ, _^_, _<_}
 use lib.ListN.{length, getD}
@@ -7,9 +7,9 @@ use Rattle.table.specs.Lists.{tabulate, padded}
 use Rattle.requests.specs.declared.Pair.{Pair}
 use Rattle.requests.specs.declared.PairList.{PairList}
 use Rattle.requests.specs.declared.Request.{Request}
-use Rattle.requests.specs.declared.Request.the-variants.{Read, Write, Fetch, Store, Revoke, Send, Allocate, Destroy, Unknown}
+use Rattle.requests.specs.declared.Request.the-variants.{Read, Write, Fetch, Store, Revoke, Send, Allocate, Destroy, Reclaim, Unknown}
 
--- codes 1 to 8 in turn; `unknown` is a code with no such request, and who asked. The code's values keep every number within its
+-- codes 1 to 9 in turn; `unknown` is a code with no such request, and who asked. The code's values keep every number within its
 -- bits; the definitions take any number
 pub data Ask : Type 0 where
   read : (actor t : ℕ) → Ask
@@ -20,6 +20,7 @@ pub data Ask : Type 0 where
   send : (actor t word : ℕ) (list : List Pair) (reply : ℕ) → Ask
   allocate : (actor n kind part i : ℕ) (list : List Pair) → Ask
   destroy : (actor t : ℕ) → Ask
+  reclaim : (actor t : ℕ) → Ask
   unknown : (code actor : ℕ) → Ask
 
 -- the column "Code"
@@ -32,6 +33,7 @@ codeOf (revoke a t j) = 5
 codeOf (send a t w l y) = 6
 codeOf (allocate a n k p i l) = 7
 codeOf (destroy a t) = 8
+codeOf (reclaim a t) = 9
 codeOf (unknown c a) = c
 
 abbrev pub actorOf : Ask → ℕ
@@ -43,6 +45,7 @@ actorOf (revoke a t j) = a
 actorOf (send a t w l y) = a
 actorOf (allocate a n k p i l) = a
 actorOf (destroy a t) = a
+actorOf (reclaim a t) = a
 actorOf (unknown c a) = a
 
 -- every field within its bits, as the code's values have it: a byte each, the word 32 bits, the part 64
@@ -59,6 +62,7 @@ InBits (revoke a t j) = (a < 2 ^ 8) × (t < 2 ^ 8) × (j < 2 ^ 8)
 InBits (send a t w l y) = (a < 2 ^ 8) × (t < 2 ^ 8) × (w < 2 ^ 32) × PairsInBits l × (y < 2 ^ 8)
 InBits (allocate a n k p i l) = (a < 2 ^ 8) × (n < 2 ^ 8) × (k < 2 ^ 8) × (p < 2 ^ 64) × (i < 2 ^ 8) × PairsInBits l
 InBits (destroy a t) = (a < 2 ^ 8) × (t < 2 ^ 8)
+InBits (reclaim a t) = (a < 2 ^ 8) × (t < 2 ^ 8)
 InBits (unknown c a) = (c < 2 ^ 8) × (a < 2 ^ 8)
 
 -- the list of a send or an allocate; the others have none
@@ -71,6 +75,7 @@ pairsIn (revoke a t j) = []
 pairsIn (send a t w l y) = l
 pairsIn (allocate a n k p i l) = l
 pairsIn (destroy a t) = []
+pairsIn (reclaim a t) = []
 pairsIn (unknown c a) = []
 
 abbrev pub noPair : Pair
@@ -94,6 +99,7 @@ askOf (Revoke a t j) l = revoke a t j
 askOf (Send a t w y) l = send a t w (pairsOf l) y
 askOf (Allocate a n k p i) l = allocate a n k p i (pairsOf l)
 askOf (Destroy a t) l = destroy a t
+askOf (Reclaim a t) l = reclaim a t
 askOf (Unknown c a) l = unknown c a
 
 -- the code's two values for a request with at most 4 pairs: after the pairs of a list stand (0, 0), and an empty list stands beside a
@@ -107,6 +113,7 @@ requestOf (revoke a t j) = Revoke a t j
 requestOf (send a t w l y) = Send a t w y
 requestOf (allocate a n k p i l) = Allocate a n k p i
 requestOf (destroy a t) = Destroy a t
+requestOf (reclaim a t) = Reclaim a t
 requestOf (unknown c a) = Unknown c a
 
 unfoldable pub heldPairs : List Pair → PairList

@@ -1,4 +1,5 @@
-// What a request is, document 01, "The eight requests": a request with its numbers, and the pair list beside it.
+// What a request is, document 01, "The eight requests", and the ninth, reclaim, of document 02, 2.8: a request with its numbers, and
+// the pair list beside it.
 
 // A pair is (actor's slot, destination slot).
 #[repr(C)]
@@ -59,7 +60,11 @@ pub enum Request {
         actor: u8,
         t: u8,
     },
-    // A code that is not 1 to 8, and who asked.
+    Reclaim {
+        actor: u8,
+        t: u8,
+    },
+    // A code that is not 1 to 9, and who asked.
     Unknown {
         code: u8,
         actor: u8,

@@ -19,7 +19,7 @@ pub record RowSays (rights : ℕ) : Type 0 where
   pub weakened : worthOf rights .0 ≡ elim (hasRd rights || hasWk rights) [ true ↦ 4 | false ↦ 0 ]
   -- read and fetch: "rd or wk"
   pub reads : worthOf rights .1 ≡ (hasRd rights || hasWk rights)
-  -- write, store, revoke and destroy: "wr"
+  -- write, store, revoke, destroy and reclaim: "wr"
   pub writes : worthOf rights .2 ≡ hasWr rights
   -- send: "tx"
   pub sends : worthOf rights .3 ≡ hasTx rights

@@ -25,7 +25,7 @@ abbrev empty : ℕ
 empty = 0
 
 -- The sixteen values, 0 to 15. Of each: what weakening leaves ("wk if rd or wk was present; otherwise the copy is empty"); whether it
--- has what read and fetch need ("rd or wk"); what write, store, revoke and destroy need ("wr"); what send needs ("tx").
+-- has what read and fetch need ("rd or wk"); what write, store, revoke, destroy and reclaim need ("wr"); what send needs ("tx").
 unfoldable pub rows : List Worth
 rows =
     (empty, no, no, no)  -- 0: nothing

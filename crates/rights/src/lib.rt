@@ -15,7 +15,7 @@ pub enum Need {
     Send,
 }
 
-// What one value is worth: the rights that weakening leaves of it; may it read and fetch; may it write, store, revoke and destroy;
+// What one value is worth: the rights that weakening leaves of it; may it read and fetch; may it write, store, revoke, destroy and reclaim;
 // may it send.
 pub struct Worth(pub u8, pub bool, pub bool, pub bool);
 

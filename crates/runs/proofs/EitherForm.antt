@@ -56,8 +56,8 @@ clean-numbers : (t : Table) (C : Clean) (qs : List Ask) → cleanNumbers t C qs 
 unfolding cleanNumbers numbersOf runReplies cleanReplies
 clean-numbers t C [] = refl
 clean-numbers t C (q ∷ qs) = byCases (C (actorOf q))
-    (λ e. rw (e, cleanNumbers, cleanReplies) (ap (λ (l : List ℕ). number (refusal t q) ∷ l) (clean-numbers (after t q) (cleanAfter C q (refusal t q)) qs)))
-    (λ e. rw (e, cleanNumbers, cleanReplies) (clean-numbers (after t q) (cleanAfter C q (refusal t q)) qs))
+    (λ e. rw (e, cleanNumbers, cleanReplies) (ap (λ (l : List ℕ). number (refusal t q) ∷ l) (clean-numbers (after t q) (cleanAfter t C q) qs)))
+    (λ e. rw (e, cleanNumbers, cleanReplies) (clean-numbers (after t q) (cleanAfter t C q) qs))
 
 -- the theorem ---------------------------------------------------------------------------------
 module _ (t u : Table) (members : ℕ) (list : List ℕ) (b : BothTested t u members list) where
@@ -87,6 +87,7 @@ either-form t u members list b =
           record {
             clean = x .clean;
             cells = rw (p .0, q .0) (x .cells);
+            makers = rw (p .0, q .0) (x .makers);
             numbers =
                 ap (cleanNumbers t (cleanAtStart t members (entriesIn list)) (asksOf ps)) (p .1) ∙ clean-numbers t _ (asksOf ps)
                 ∙ ap numbersOf (x .replies)

@@ -11,7 +11,6 @@ use Rattle.table.proofs.Table as T
 use Rattle.octets.specs.BigEndian.{Bytes}
 use Rattle.requests.specs.Asks.{Ask, actorOf}
 use Rattle.refusals.specs.Replies.{number}
-use Rattle.refusals.specs.Refusals.{refusal}
 use Rattle.steps.specs.Steps.{after, stepOf}
 use Rattle.bounds.specs.Agreement.{AgreeOutside}
 use Rattle.confinement.specs.Tests.{testOf}
@@ -19,8 +18,8 @@ use Rattle.image.specs.Images.{readOf}
 use Rattle.take_grant.specs.Imports.{importOf}
 use Rattle.wire.specs.Wires.{askFrom}
 use Rattle.entries.specs.Entries.{entriesIn}
-use Rattle.isolation.specs.Clean.{Clean, cleanAtStart, cleanAfter, cleanAtEnd, cleanRequests}
-use Rattle.isolation.specs.Demand.{AgreeOn}
+use Rattle.isolation.specs.Clean.{Clean, cleanAtStart, cleanAfter, cleanAtEnd, cleanRequests, comparedAtStart, comparedAtEnd}
+use Rattle.isolation.specs.Demand.{AgreeOn, MakersAgree}
 use Rattle.captable.specs.declared.Outcome.{Outcome}
 use Rattle.captable.specs.Crossing.{stepped, loaded, broughtIn, found}
 
@@ -53,8 +52,8 @@ unfoldable pub cleanNumbers : Table → Clean → List Ask → List ℕ → List
 cleanNumbers t C [] ns = []
 cleanNumbers t C (q ∷ qs) [] = []
 cleanNumbers t C (q ∷ qs) (n ∷ ns) = elim (C (actorOf q)) [
-  | true ↦ n ∷ cleanNumbers (after t q) (cleanAfter C q (refusal t q)) qs ns
-  | false ↦ cleanNumbers (after t q) (cleanAfter C q (refusal t q)) qs ns
+  | true ↦ n ∷ cleanNumbers (after t q) (cleanAfter t C q) qs ns
+  | false ↦ cleanNumbers (after t q) (cleanAfter t C q) qs ns
 ]
 
 -- two tables that agree outside the members; `captable_test` accepts the same members and list in both
@@ -69,6 +68,7 @@ pub record BothTested (t u : Table) (members : ℕ) (list : List ℕ) : Type 0 w
 pub record AlikeTaken (t u : Table) (C D : Clean) (ps qs : List (List ℕ)) (v w : Table) (ms ns : List ℕ) : Type 0 where
   pub clean : (n : ℕ) → cleanAtEnd t C (asksOf ps) n ≡ cleanAtEnd u D (asksOf qs) n
   pub cells : AgreeOn (cleanAtEnd t C (asksOf ps)) v w
+  pub makers : MakersAgree (cleanAtEnd t C (asksOf ps)) (comparedAtEnd t C (comparedAtStart t C) (asksOf ps)) v w
   pub numbers : cleanNumbers t C (asksOf ps) ms ≡ cleanNumbers u D (asksOf qs) ns
 
 -- the bound and the rounds that `captable_test` gave are the same, and so is all that clean objects are and are told, whatever everybody

@@ -17,7 +17,7 @@ use Rattle.rights.specs.declared.Need.the-variants.{Send}
 use Rattle.requests.specs.declared.Pair.{Pair}
 use Rattle.requests.specs.Asks.{Ask, send, allocate}
 use Rattle.refusals.specs.Replies.{isDone}
-use Rattle.refusals.specs.Refusals.{laterRows, refusal, targetOf}
+use Rattle.refusals.specs.Refusals.{alive, laterRows, refusal, targetOf}
 use Rattle.copies.specs.Copies.{copyPairs}
 use Rattle.copies.specs.Exactness.{lastFilled}
 use Rattle.copies.proofs.Pairs.{copies-sized, wins}
@@ -49,7 +49,7 @@ module _ (t : Table) (a s w : ℕ) (list : List Pair) (y j : ℕ) (it : IsTable 
       let q = send-list a s w list y (r .fields) in
       let f = sound-done t (send a s w list y) it d in
       let x = targetOf t a s in
-      let g = granted t a s Send _ f (q .0) (r .alive) (r .later) .0 in
+      let g = granted t a s alive Send _ f (q .0) (r .alive) (r .later) .0 in
       let v = putRecord t x (withWord (recordAt t x) w) in
       let z = sized-putRecord t x (withWord (recordAt t x) w) (f .size) in
       answered (copyPairs v (slotAt t a) x list) x y a j (copies-sized v (slotAt t a) x list z) (g .target) hj

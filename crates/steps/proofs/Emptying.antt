@@ -1,6 +1,7 @@
--- Only revoke empties a slot of an alive object; copies that come out empty change nothing. By the cases of the request, the laws of
+-- Only revoke and reclaim empty a slot of an alive object; copies that come out empty change nothing. By the cases of the request, the laws of
 -- its effect, and what its checks leave. Assumes nothing.
 use mathlib.Core.Path.{_≡_, refl, sym, _∙_, ap}
+use mathlib.Core.Logic.{_⊎_, inl, inr}
 use mathlib.Core.Bool.{true, false, _||_}
 use mathlib.Core.List.{List}
 use Prim.Native.Nat.{ℕ, _+_, _*_, _≤_, _<_}
@@ -16,23 +17,25 @@ use Rattle.table.specs.Cells.{emptySlot, recordAt, slotAt, putSlot, isEmpty, is
 use Rattle.rights.proofs.Sentences.{needs-are-the-sentences}
 use Rattle.rights.proofs.Weakening.{weaken-unable}
 use Rattle.requests.specs.declared.Pair.{Pair}
-use Rattle.requests.specs.Asks.{Ask, read, write, fetch, store, revoke, send, allocate, destroy, unknown}
+use Rattle.requests.specs.Asks.{Ask, read, write, fetch, store, revoke, send, allocate, destroy, reclaim, unknown}
 use Rattle.refusals.specs.Replies.{isDone}
 use Rattle.refusals.specs.Refusals.{noSlot, badSlots, badList, badField, laterRows, refusal, targetOf, rightsOf}
 use Rattle.effects.specs.Effects.{answerSlot, fullOver, effect, sent, allocated}
 use Rattle.effects.proofs.Emptied.{fetch-nothing, store-nothing, sent-full, allocated-full, revoked-empty, destroyed-other, destroyed-dead}
+use Rattle.effects.proofs.Reclaims.{reclaimed-slot}
+use Rattle.forgetting.proofs.Left.{unnamed-other}
 use Rattle.copies.specs.Exactness.{CopyEmptiesNone, LeftOut, none, kept, left, LeftOutSame}
 use Rattle.copies.proofs.Landing.{copy-empties-none}
 use Rattle.copies.proofs.Pairs.{left-out-same}
 use Rattle.copies.proofs.Fetches.{fetched-weakened}
 use Rattle.steps.specs.Steps.{after, stepOf}
-use Rattle.steps.specs.Exactness.{RevokeDone, OnlyRevokeEmpties, RevokeEmpties, EmptyFetchKeeps, EmptyStoreKeeps, WeakenedFetchKeeps, EmptyPairsFree}
+use Rattle.steps.specs.Exactness.{RevokeDone, ReclaimDone, OnlyRevokeOrReclaimEmpties, RevokeEmpties, EmptyFetchKeeps, EmptyStoreKeeps, WeakenedFetchKeeps, EmptyPairsFree}
 use Rattle.steps.proofs.Refused.{refused-keeps, done-effects, step-done}
 use Rattle.steps.proofs.Granted.{past-checks, not-itself, list-in, revoke-slot, send-list, made-facts}
 
--- only revoke ------------------------------------------------------------------------------------------------
+-- only revoke and reclaim ------------------------------------------------------------------------------------
 emptied : (t : Table) (q : Ask) (n j : ℕ) → j < 8 → isDone (refusal t q) ≡ true → isEmpty (slotAt t n j) ≡ false
-    → isEmpty (slotAt (effect t q) n j) ≡ true → isAlive (recordAt (effect t q) n) ≡ true → RevokeDone t q n j
+    → isEmpty (slotAt (effect t q) n j) ≡ true → isAlive (recordAt (effect t q) n) ≡ true → RevokeDone t q n j ⊎ ReclaimDone t q (slotAt t n j .target)
 unfolding effect CopyEmptiesNone
 emptied t (read a s) n j hj d full bare live = clash bare full
 emptied t (write a s w) n j hj d full bare live = clash bare full
@@ -41,7 +44,7 @@ emptied t (store a s i k) n j hj d full bare live = clash bare (copy-empties-non
 emptied t (revoke a s k) n j hj d full bare live =
     let hk = revoke-slot a s k (past-checks t (revoke a s k) d .fields) .1 in
     byEq (n * 8 + j) (targetOf t a s * 8 + k)
-    (λ e. record { actor = a; through = s; asked = ap (λ (x : ℕ). revoke a s x) (omega arith); target = omega arith; done = d })
+    (λ e. inl (record { actor = a; through = s; asked = ap (λ (x : ℕ). revoke a s x) (omega arith); target = omega arith; done = d }))
     (λ e. clash bare (rw (getD-set-other (t .slots) (targetOf t a s * 8 + k) (n * 8 + j) emptySlot emptySlot e) full))
 emptied t (send a s w l y) n j hj d full bare live = clash bare (sent-full t n j full a (targetOf t a s) w l y)
 emptied t (allocate a m k p i l) n j hj d full bare live = clash bare (allocated-full t n j full a m k p i l)
@@ -50,11 +53,14 @@ emptied t (destroy a s) n j hj d full bare live =
     byEq n g
     (λ e. clash live (rw e (destroyed-dead t a g (not-itself t a s d))))
     (λ e. clash bare (rw (destroyed-other t a g n j e hj) full))
+emptied t (reclaim a s) n j hj d full bare live = byEq (slotAt t n j .target) (targetOf t a s)
+    (λ e. inr (record { actor = a; through = s; asked = refl; target = sym e; done = d }))
+    (λ e. clash bare (rw (reclaimed-slot t a (targetOf t a s) n j, unnamed-other (targetOf t a s) (slotAt t n j) e) full))
 emptied t (unknown c a) n j hj d full bare live = clash bare full
 
-pub only-revoke-empties : OnlyRevokeEmpties
-unfolding OnlyRevokeEmpties
-only-revoke-empties t q n j hj full bare live = byCases (isDone (refusal t q))
+pub only-revoke-or-reclaim-empties : OnlyRevokeOrReclaimEmpties
+unfolding OnlyRevokeOrReclaimEmpties
+only-revoke-or-reclaim-empties t q n j hj full bare live = byCases (isDone (refusal t q))
     (λ d. emptied t q n j hj d full (rw (done-effects t q d) at bare) (rw (done-effects t q d) at live))
     (λ d. clash bare (rw (refused-keeps t q d) full))
 

@@ -23,11 +23,11 @@ use Rattle.rights.specs.declared.Need.{Need}
 use Rattle.rights.specs.Rows.{needMet}
 use Rattle.requests.specs.declared.Pair.{Pair}
 use Rattle.refusals.specs.declared.Reply.{Reply}
-use Rattle.refusals.specs.declared.Reply.the-variants.{Done, ActorItself, NotInStock, TableUnsound, FieldInvalid, ActorUnfit, SlotEmpty, TargetDead, RightAbsent}
-use Rattle.requests.specs.Asks.{Ask, revoke, send, allocate, destroy, actorOf}
+use Rattle.refusals.specs.declared.Reply.the-variants.{Done, ActorItself, NotInStock, TableUnsound, FieldInvalid, ActorUnfit, SlotEmpty, RightAbsent}
+use Rattle.requests.specs.Asks.{Ask, revoke, send, allocate, destroy, reclaim, actorOf}
 use Rattle.refusals.specs.Replies.{isDone}
-use Rattle.refusals.proofs.Rows.{status-wanted, slot-placed}
-use Rattle.refusals.specs.Refusals.{refuse, noSlot, noObject, badSlots, badList, badField, unfit, alive, otherStatus, through, throughSlot, notInStock, targetOf, targetRecord, rightsOf, laterRows, refusal}
+use Rattle.refusals.proofs.Rows.{wrong-refuses, status-wanted, slot-placed}
+use Rattle.refusals.specs.Refusals.{refuse, noSlot, noObject, badSlots, badList, badField, unfit, alive, dead, otherStatus, wrongStatus, through, throughSlot, notInStock, targetOf, targetRecord, rightsOf, laterRows, refusal}
 
 -- a row that did not turn the request down
 pub passed : (cause : Bool) (why rest : Reply) → isDone why ≡ false → isDone (refuse cause why rest) ≡ true → (cause ≡ false) × (isDone rest ≡ true)
@@ -60,20 +60,20 @@ pub past-through : (c : Capability) (r : Record) (wanted : ℕ) (able : Bool) (r
 unfolding through
 past-through c r wanted able rest e =
     let r4 = passed (isEmpty c) SlotEmpty _ refl e in
-    let r5 = passed (otherStatus wanted r) TargetDead _ refl (r4 .1) in
+    let r5 = passed (otherStatus wanted r) (wrongStatus wanted) _ (wrong-refuses wanted) (r4 .1) in
     let r6 = passed (not able) RightAbsent rest refl (r5 .1) in
     (r4 .0, r5 .0, not-false _ (r6 .0), r6 .1)
 
-pub record Granted (t : Table) (a s : ℕ) (need : Need) : Type 0 where
+pub record Granted (t : Table) (a s wanted : ℕ) (need : Need) : Type 0 where
   pub actor : a < 64
   pub slot : s < 8
   pub alive : statusAt t a ≡ 1
   pub filled : 1 ≤ slotAt t a s .rights
   pub target : targetOf t a s < 64
-  pub there : statusAt t (targetOf t a s) ≡ 1
+  pub there : statusAt t (targetOf t a s) ≡ wanted
   pub right : needMet need (rightsOf t a s) ≡ true
 
-born-low : (t : Table) (n : ℕ) → Sized t → 1 ≤ statusAt t n → n < 64
+pub born-low : (t : Table) (n : ℕ) → Sized t → 1 ≤ statusAt t n → n < 64
 born-low t n z h = byCases (ltb n 64) (λ e. ltb-true n 64 e)
     (λ e. absurd (omega (arith, ap (λ (r : Record). r .status) (record-high t n z (ltb-false n 64 e)))))
 
@@ -82,12 +82,12 @@ filled-slot a b c f e = byEq (c .rights) 0
     (λ q. clash (and-intro (eqb (c .target) 0) (eqb (c .rights) 0) (eq-eqb _ 0 (f .blank q)) (eq-eqb _ 0 q)) e)
     (λ q. omega arith)
 
-pub granted : (t : Table) (a s : ℕ) (need : Need) (rest : Reply) → Sound t → (noObject a || noSlot s) ≡ false → statusAt t a ≡ 1
-    → isDone (throughSlot t a s alive need rest) ≡ true → (Granted t a s need) × (isDone rest ≡ true)
+pub granted : (t : Table) (a s wanted : ℕ) (need : Need) (rest : Reply) → Sound t → (noObject a || noSlot s) ≡ false → statusAt t a ≡ 1
+    → isDone (throughSlot t a s wanted need rest) ≡ true → (Granted t a s wanted need) × (isDone rest ≡ true)
 unfolding throughSlot
-granted t a s need rest d f l e =
+granted t a s wanted need rest d f l e =
     let c = slotAt t a s in
-    let rows = past-through c (recordAt t (c .target)) alive (needMet need (c .rights)) rest e in
+    let rows = past-through c (recordAt t (c .target)) wanted (needMet need (c .rights)) rest e in
     let p = or-none (noObject a) (noSlot s) f in
     let hs = slot-placed s (p .1) in
     let g = d .slots a s hs in
@@ -99,7 +99,7 @@ granted t a s need rest d f l e =
         alive = l;
         filled = h;
         target = born-low t (c .target) (d .size) b;
-        there = status-wanted alive (recordAt t (c .target)) b (d .records (c .target) .low) (rows .1);
+        there = status-wanted wanted (recordAt t (c .target)) b (d .records (c .target) .low) (rows .1);
         right = rows .2;
       },
       rows .3,
@@ -116,6 +116,15 @@ unfolding laterRows throughSlot
 not-itself t a s e =
     let r = past-through (slotAt t a s) (targetRecord t a s) alive (needMet Write (rightsOf t a s)) _ (past-checks t (destroy a s) e .later) in
     eqb-false (targetOf t a s) a (passed (eqb (targetOf t a s) a) ActorItself Done refl (r .3) .0)
+
+-- a reclaim
+pub reclaim-granted : (t : Table) (a s : ℕ) → Sound t → isDone (refusal t (reclaim a s)) ≡ true → Granted t a s dead Write
+unfolding badField laterRows
+reclaim-granted t a s d e = let r = past-checks t (reclaim a s) e in granted t a s dead Write Done d (r .fields) (r .alive) (r .later) .0
+
+-- whoever asks is alive, and what is reclaimed is dead
+pub reclaim-apart : (t : Table) (a s : ℕ) → Granted t a s dead Write → a ≢ targetOf t a s
+reclaim-apart t a s g e = absurd (omega (arith, g .alive, g .there, ap (statusAt t) e))
 
 -- a pair list --------------------------------------------------------------------------
 pub data Ranged : List Pair → Type 0 where

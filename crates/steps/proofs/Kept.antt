@@ -1,22 +1,26 @@
 -- A request with its fields within their bits leaves a table value a table value, refused or not; so does a run of them. Every
--- effect is puts of records and slots, and what is put is made of the table's fields and the request's. Assumes nothing.
+-- effect is puts of records and slots, and what is put is made of the table's fields and the request's; what a reclaim forgets becomes
+-- empty or 64. Assumes nothing.
 use mathlib.Core.List.{List, [], _∷_}
 use Prim.Native.Nat.{ℕ, zero, suc, _+_, _*_, _^_, _<_}
 use native.Mathlib.Omega.{arith}
 use lib.Dec.{ltb}
-use Rattle.mask.specs.Sets.{lessOf, unionOf}
+use Rattle.mask.specs.Sets.{including, lessOf, unionOf}
 use Rattle.mask.proofs.Tests.{byCases}
 use Rattle.mask.proofs.Bits.{bits-lt}
 use Rattle.table.specs.declared.Capability.{Capability}
 use Rattle.table.specs.declared.Table.{Table}
-use Rattle.table.specs.Cells.{IsTable, recordAt, slotAt, emptySlot}
+use Rattle.table.specs.Cells.{IsTable, unbornRecord, recordAt, slotAt, makerAt, slotOf, emptySlot}
+use Rattle.table.proofs.Cells.{table-sized}
 use Rattle.table.proofs.Value.{RecordValue, SlotValue, record-value, slot-value, empty-value, slot-of, table-putRecord, table-putSlot}
 use Rattle.rights.proofs.Weakening.{weakOver}
 use Rattle.requests.specs.declared.Pair.{Pair}
-use Rattle.requests.specs.Asks.{Ask, read, write, fetch, store, revoke, send, allocate, destroy, unknown, InBits}
+use Rattle.requests.specs.Asks.{Ask, read, write, fetch, store, revoke, send, allocate, destroy, reclaim, unknown, InBits}
 use Rattle.refusals.specs.Replies.{isDone}
 use Rattle.refusals.specs.Refusals.{targetOf, rightsOf, refusal}
-use Rattle.effects.specs.Effects.{answerSlot, clearSlots, withWord, withStock, made, died, fullOver, stockLess, sent, allocated, destroyed, effect}
+use Rattle.effects.specs.Effects.{answerSlot, clearSlots, withWord, withStock, made, died, fullOver, stockLess, sent, allocated, destroyed, joined, reclaimed, effect}
+use Rattle.forgetting.specs.Forgetting.{forgotten}
+use Rattle.forgetting.proofs.Left.{unnamed-elim, left-elim, forgotten-place, forgotten-sized, forgotten-any}
 use Rattle.copies.specs.Copies.{fetched, copyTo, copyPairs}
 use Rattle.copies.proofs.Landing.{landed-elim}
 use Rattle.copies.proofs.Fetches.{fetched-elim}
@@ -33,6 +37,10 @@ stock-value t n s z h = record-value (withStock (recordAt t n) s) (z .statuses n
 less-lt : (n part stock : ℕ) → stockLess n part stock < 2 ^ 64
 unfolding stockLess lessOf
 less-lt n part stock = bits-lt 64 _
+
+joined-lt : (n stock : ℕ) → including n stock < 2 ^ 64
+unfolding including
+joined-lt n stock = bits-lt 64 _
 
 union-lt : (a b : ℕ) → unionOf a b < 2 ^ 64
 unfolding unionOf
@@ -65,9 +73,24 @@ unfolding clearSlots
 clear-keeps t n zero z = z
 clear-keeps t n (suc k) z = table-putSlot (clearSlots t n k) n k emptySlot (clear-keeps t n k z) empty-value
 
+forgotten-keeps : (t : Table) (g : ℕ) → IsTable t → IsTable (forgotten t g)
+forgotten-keeps t g z =
+    let s = forgotten-sized t g (table-sized t z) in
+    record {
+      records = s .records;
+      slots = s .slots;
+      statuses = λ n. forgotten-any (λ r. r .status < 2 ^ 8) t g n (z .statuses n) (λ e. omega arith);
+      kinds = λ n. forgotten-any (λ r. r .kind < 2 ^ 8) t g n (z .kinds n) (λ e. omega arith);
+      makers = λ n. forgotten-any (λ r. r .maker < 2 ^ 8) t g n (left-elim (λ m. m < 2 ^ 8) g (makerAt t n) (λ e. omega arith) (λ e. z .makers n)) (λ e. omega arith);
+      words = λ n. forgotten-any (λ r. r .word < 2 ^ 32) t g n (z .words n) (λ e. omega arith);
+      stocks = λ n. forgotten-any (λ r. r .stock < 2 ^ 64) t g n (z .stocks n) (λ e. omega arith);
+      targets = λ k. rw (forgotten-place t g k) (unnamed-elim (λ c. c .target < 2 ^ 8) g (slotOf (t .slots) k) (omega arith) (λ e. z .targets k));
+      rights = λ k. rw (forgotten-place t g k) (unnamed-elim (λ c. c .rights < 2 ^ 8) g (slotOf (t .slots) k) (omega arith) (λ e. z .rights k));
+    }
+
 -- the requests ---------------------------------------------------------------------------------------
 effect-keeps : (t : Table) (q : Ask) → IsTable t → InBits q → IsTable (effect t q)
-unfolding effect sent allocated destroyed
+unfolding effect sent allocated destroyed reclaimed joined
 effect-keeps t (read a s) z h = table-putRecord t a _ z (word-value t a _ z (z .words (targetOf t a s)))
 effect-keeps t (write a s w) z h = table-putRecord t (targetOf t a s) _ z (word-value t (targetOf t a s) w z (h .2))
 effect-keeps t (fetch a s i j) z h =
@@ -88,6 +111,11 @@ effect-keeps t (destroy a s) z h =
     let g = targetOf t a s in
     let dead = record-value (died (recordAt t g)) (omega arith) (z .kinds g) (z .makers g) (omega arith) (omega arith) in
     table-putRecord _ a _ (table-putRecord _ g _ (clear-keeps t g 8 z) dead) (stock-value t a _ z (union-lt _ _))
+effect-keeps t (reclaim a s) z h =
+    let g = targetOf t a s in
+    let nobody = record-value unbornRecord (omega arith) (omega arith) (omega arith) (omega arith) (omega arith) in
+    let bare = table-putRecord (forgotten t g) g unbornRecord (forgotten-keeps t g z) nobody in
+    table-putRecord _ a _ bare (stock-value _ a _ bare (joined-lt g _))
 effect-keeps t (unknown c a) z h = z
 
 pub step-keeps-table : (t : Table) (q : Ask) → IsTable t → InBits q → IsTable (after t q)

@@ -1,4 +1,4 @@
--- Seven of the eight requests go through a slot: which one, with which other fields, need and last check. The eighth, allocate,
+-- Eight of the nine requests go through a slot: which one, with which other fields, wanted status, need and last check. The ninth, allocate,
 -- does not: its fields and its row 9; nor does a code with no request. By computing the definitions at each request. Assumes nothing.
 use mathlib.Core.Path.{_≡_, refl, sym, _∙_, ap}
 use mathlib.Core.Bool.{Bool, true, false, not, _||_}
@@ -19,8 +19,8 @@ use Rattle.requests.specs.declared.PairList.{PairList}
 use Rattle.refusals.specs.declared.Reply.{Reply}
 use Rattle.refusals.specs.declared.Reply.the-variants.{Done, TargetPassive, ActorItself, NotInStock}
 use Rattle.refusals.specs.declared.SlotCheck.{SlotCheck}
-use Rattle.requests.specs.Asks.{read, write, fetch, store, revoke, send, allocate, destroy, unknown, pairsOf}
-use Rattle.refusals.specs.Refusals.{refuse, alive, noObject, noSlot, badList, badField, notInStock, targetOf, laterRows}
+use Rattle.requests.specs.Asks.{read, write, fetch, store, revoke, send, allocate, destroy, reclaim, unknown, pairsOf}
+use Rattle.refusals.specs.Refusals.{refuse, alive, dead, noObject, noSlot, badList, badField, notInStock, targetOf, laterRows}
 use Rattle.refusals.specs.Helpers.{SlotChecked, PairsFit}
 use Rattle.refusals.proofs.Lists.{pairs-fit}
 use Rattle.steps.proofs.Ways.{Uses, Fields, Later}
@@ -71,6 +71,10 @@ module _ {t : Table} {a s : ℕ} where
   pub destroy-uses : Uses t (destroy a s) a s false alive Write (itselfRow a (targetOf t a s))
   unfolding badField laterRows
   destroy-uses = record { actor = refl; fields = sym (or-false _); later = refl }
+
+  pub reclaim-uses : Uses t (reclaim a s) a s false dead Write Done
+  unfolding badField laterRows
+  reclaim-uses = record { actor = refl; fields = sym (or-false _); later = refl }
 
 -- a send's list, where its fields are in range
 pub send-list : (l : PairList) (y : ℕ) (b : Bool) → b ≡ badList (pairsOf l) → (b || ltb 8 y) ≡ false → PairsFit l

@@ -13,7 +13,7 @@ use Rattle.requests.specs.declared.Pair.{Pair}
 use Rattle.requests.specs.declared.PairList.{PairList}
 use Rattle.requests.specs.declared.Request.{Request}
 use Rattle.requests.specs.declared.Request.the-variants.{Send, Allocate, Unknown}
-use Rattle.requests.specs.Asks.{read, write, fetch, store, revoke, send, allocate, destroy, unknown, pairsIn, noPair, requestOf, heldPairs}
+use Rattle.requests.specs.Asks.{read, write, fetch, store, revoke, send, allocate, destroy, reclaim, unknown, pairsIn, noPair, requestOf, heldPairs}
 use Rattle.octets.specs.BigEndian.{byteAt}
 use Rattle.octets.proofs.Lists.{getD-within}
 use Rattle.wire.specs.declared.Asked.{Asked}
@@ -69,6 +69,10 @@ module _ (bs : List ℕ) (a t : ℕ) (f : a ≡ actorIn bs) (g : t ≡ byteAt bs
   unfolding fieldsOf
   destroy-made e = rw (f, g, e, fieldsOf) refl
 
+  pub reclaim-made : codeIn bs ≡ 9 → reclaim a t ≡ fieldsOf bs
+  unfolding fieldsOf
+  reclaim-made e = rw (f, g, e, fieldsOf) refl
+
   pub send-fields : codeIn bs ≡ 6 → (w : ℕ) → w ≡ wordIn bs → (y : ℕ) → y ≡ byteAt bs (8 + 2 * countIn bs) → send a t w (listIn bs) y ≡ fieldsOf bs
   unfolding fieldsOf
   send-fields e w h y k = rw (f, g, h, k, e, fieldsOf) refl
@@ -93,10 +97,10 @@ module _ (bs : List ℕ) (a t : ℕ) (f : a ≡ actorIn bs) (g : t ≡ byteAt bs
 
 -- a code with no fields
 pub unknown-made : (bs : List ℕ) (a code : ℕ) → a ≡ actorIn bs → codeIn bs ≡ code
-    → code ≢ 1 → code ≢ 2 → code ≢ 3 → code ≢ 4 → code ≢ 5 → code ≢ 6 → code ≢ 7 → code ≢ 8 → unknown code a ≡ fieldsOf bs
+    → code ≢ 1 → code ≢ 2 → code ≢ 3 → code ≢ 4 → code ≢ 5 → code ≢ 6 → code ≢ 7 → code ≢ 8 → code ≢ 9 → unknown code a ≡ fieldsOf bs
 unfolding fieldsOf
-unknown-made bs a code f e n1 n2 n3 n4 n5 n6 n7 n8 =
-    rw (f, e, ne-eqb code 1 n1, ne-eqb code 2 n2, ne-eqb code 3 n3, ne-eqb code 4 n4, ne-eqb code 5 n5, ne-eqb code 6 n6, ne-eqb code 7 n7, ne-eqb code 8 n8, fieldsOf) refl
+unknown-made bs a code f e n1 n2 n3 n4 n5 n6 n7 n8 n9 =
+    rw (f, e, ne-eqb code 1 n1, ne-eqb code 2 n2, ne-eqb code 3 n3, ne-eqb code 4 n4, ne-eqb code 5 n5, ne-eqb code 6 n6, ne-eqb code 7 n7, ne-eqb code 8 n8, ne-eqb code 9 n9, fieldsOf) refl
 
 -- a code other than 6 and 7 has no list
 pub no-list : (bs : List ℕ) → codeIn bs ≢ 6 → codeIn bs ≢ 7 → pairsIn (fieldsOf bs) ≡ []
@@ -108,7 +112,8 @@ no-list bs n6 n7 =
     (λ n3. byEq c 4 (λ e. ap pairsIn (sym (store-made bs _ _ refl refl e _ _ refl refl)))
     (λ n4. byEq c 5 (λ e. ap pairsIn (sym (revoke-made bs _ _ refl refl e _ refl)))
     (λ n5. byEq c 8 (λ e. ap pairsIn (sym (destroy-made bs _ _ refl refl e)))
-    (λ n8. ap pairsIn (sym (unknown-made bs _ _ refl refl n1 n2 n3 n4 n5 n6 n7 n8))))))))
+    (λ n8. byEq c 9 (λ e. ap pairsIn (sym (reclaim-made bs _ _ refl refl e)))
+    (λ n9. ap pairsIn (sym (unknown-made bs _ _ refl refl n1 n2 n3 n4 n5 n6 n7 n8 n9)))))))))
 
 -- who asks: the byte after the code, or nobody
 module _ (bs : List ℕ) where

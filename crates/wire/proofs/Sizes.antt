@@ -16,10 +16,10 @@ use Rattle.wire.specs.Wires.{codeIn, countIn, listPlace, sizeOf, listFit
 pub size-row : (code k count size : ℕ) → code ≡ k → size ≡ sizeOf k count → size ≡ sizeOf code count
 size-row code k count size e f = f ∙ ap (λ (x : ℕ). sizeOf x count) (sym e)
 
-pub size-none : (code count : ℕ) → code ≢ 1 → code ≢ 2 → code ≢ 3 → code ≢ 4 → code ≢ 5 → code ≢ 6 → code ≢ 7 → code ≢ 8 → 0 ≡ sizeOf code count
+pub size-none : (code count : ℕ) → code ≢ 1 → code ≢ 2 → code ≢ 3 → code ≢ 4 → code ≢ 5 → code ≢ 6 → code ≢ 7 → code ≢ 8 → code ≢ 9 → 0 ≡ sizeOf code count
 unfolding sizeOf
-size-none code count n1 n2 n3 n4 n5 n6 n7 n8 =
-    rw (ne-eqb code 1 n1, ne-eqb code 2 n2, ne-eqb code 3 n3, ne-eqb code 4 n4, ne-eqb code 5 n5, ne-eqb code 6 n6, ne-eqb code 7 n7, ne-eqb code 8 n8, sizeOf) refl
+size-none code count n1 n2 n3 n4 n5 n6 n7 n8 n9 =
+    rw (ne-eqb code 1 n1, ne-eqb code 2 n2, ne-eqb code 3 n3, ne-eqb code 4 n4, ne-eqb code 5 n5, ne-eqb code 6 n6, ne-eqb code 7 n7, ne-eqb code 8 n8, ne-eqb code 9 n9, sizeOf) refl
 
 -- a list begins within the first bytes
 pub place-small : (code : ℕ) → listPlace code ≤ 13

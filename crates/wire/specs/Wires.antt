@@ -8,7 +8,7 @@ use lib.ListN.{length, getD, take, drop}
 use Rattle.table.specs.Lists.{tabulate}
 use Rattle.octets.specs.BigEndian.{byteAt, numberOf}
 use Rattle.requests.specs.declared.Pair.{Pair}
-use Rattle.requests.specs.Asks.{Ask, read, write, fetch, store, revoke, send, allocate, destroy, unknown, pairsIn, requestOf, heldPairs}
+use Rattle.requests.specs.Asks.{Ask, read, write, fetch, store, revoke, send, allocate, destroy, reclaim, unknown, pairsIn, requestOf, heldPairs}
 use Rattle.wire.specs.declared.Asked.{Asked}
 
 abbrev pub codeIn : List ℕ → ℕ
@@ -29,10 +29,10 @@ listPlace code = cond (eqb code 6) 7 13
 abbrev pub countIn : List ℕ → ℕ
 countIn bs = byteAt bs (listPlace (codeIn bs))
 
--- the bytes that a request takes, with a list of `count` pairs if it has one; none for a code that is not 1 to 8
+-- the bytes that a request takes, with a list of `count` pairs if it has one; none for a code that is not 1 to 9
 unfoldable pub sizeOf : ℕ → ℕ → ℕ
 sizeOf code count =
-    cond (eqb code 1 || eqb code 8) 3
+    cond (eqb code 1 || eqb code 8 || eqb code 9) 3
     (cond (eqb code 2) 7
     (cond (eqb code 3 || eqb code 4) 5
     (cond (eqb code 5) 4
@@ -70,7 +70,8 @@ fieldsOf bs =
     (cond (eqb (codeIn bs) 5) (revoke (actorIn bs) (byteAt bs 2) (byteAt bs 3))
     (cond (eqb (codeIn bs) 6) (send (actorIn bs) (byteAt bs 2) (wordIn bs) (listIn bs) (byteAt bs (8 + 2 * countIn bs)))
     (cond (eqb (codeIn bs) 7) (allocate (actorIn bs) (byteAt bs 2) (byteAt bs 3) (partIn bs) (byteAt bs 12) (listIn bs))
-    (cond (eqb (codeIn bs) 8) (destroy (actorIn bs) (byteAt bs 2)) (unknown (codeIn bs) (actorIn bs)))))))))
+    (cond (eqb (codeIn bs) 8) (destroy (actorIn bs) (byteAt bs 2))
+    (cond (eqb (codeIn bs) 9) (reclaim (actorIn bs) (byteAt bs 2)) (unknown (codeIn bs) (actorIn bs))))))))))
 
 -- the request that any bytes are: those that are no request are one without fields, which is refused by 2
 unfoldable pub askFrom : List ℕ → Ask

@@ -54,7 +54,7 @@ fn list_fits(code: u8, count: u8) -> bool
     true
 }
 
-// The bytes that a request takes, with a list of `count` pairs if it has one; none for a code that is not 1 to 8.
+// The bytes that a request takes, with a list of `count` pairs if it has one; none for a code that is not 1 to 9.
 fn size_of(code: u8, count: u8) -> usize
     ensures { λ r. ⌜ r ≡ sizeOf code count ⌝ }
 {
@@ -67,6 +67,7 @@ fn size_of(code: u8, count: u8) -> usize
         6 => 9 + 2 * (count as usize),
         7 => 14 + 2 * (count as usize),
         8 => 3,
+        9 => 3,
         _ => 0,
     }
 }
@@ -227,6 +228,7 @@ fn plain_in(bytes: &[u8], code: u8) -> Request
             j: third,
         },
         8 => Request::Destroy { actor: actor, t: t },
+        9 => Request::Reclaim { actor: actor, t: t },
         _ => Request::Unknown {
             code: code,
             actor: actor,

@@ -1,5 +1,5 @@
 -- The request of any bytes, by their code: what holds of each code's request holds of the request of the bytes. By the
--- definition's eight tests in turn. Assumes nothing.
+-- definition's nine tests in turn. Assumes nothing.
 use mathlib.Core.Path.{_≡_, refl}
 use mathlib.Core.Bool.{Bool, true, false, cond}
 use mathlib.Core.List.{List}
@@ -7,7 +7,7 @@ use Prim.Native.Nat.{ℕ, _+_, _*_}
 use lib.Dec.{eqb}
 use borrow.Author.Tests.{eqb-true, eqb-false}
 use Rattle.octets.specs.BigEndian.{byteAt}
-use Rattle.requests.specs.Asks.{Ask, read, write, fetch, store, revoke, send, allocate, destroy, unknown}
+use Rattle.requests.specs.Asks.{Ask, read, write, fetch, store, revoke, send, allocate, destroy, reclaim, unknown}
 use Rattle.wire.specs.Wires.{codeIn, actorIn, countIn, sizeOf, listIn, wordIn, partIn, fieldsOf}
 use Rattle.wire.proofs.Sizes.{size-none}
 
@@ -26,6 +26,7 @@ pub record ByCode (P : Ask → Type 0) (bs : List ℕ) : Type 0 where
   pub six : codeIn bs ≡ 6 → P (send (actorIn bs) (byteAt bs 2) (wordIn bs) (listIn bs) (byteAt bs (8 + 2 * countIn bs)))
   pub seven : codeIn bs ≡ 7 → P (allocate (actorIn bs) (byteAt bs 2) (byteAt bs 3) (partIn bs) (byteAt bs 12) (listIn bs))
   pub eight : codeIn bs ≡ 8 → P (destroy (actorIn bs) (byteAt bs 2))
+  pub nine : codeIn bs ≡ 9 → P (reclaim (actorIn bs) (byteAt bs 2))
   pub none : ((count : ℕ) → 0 ≡ sizeOf (codeIn bs) count) → P (unknown (codeIn bs) (actorIn bs))
 
 pub by-code : (P : Ask → Type 0) (bs : List ℕ) → ByCode P bs → P (fieldsOf bs)
@@ -40,5 +41,6 @@ by-code P bs b =
     (λ n5. by-cond P (eqb c 6) _ _ (λ e. b .six (eqb-true c 6 e))
     (λ n6. by-cond P (eqb c 7) _ _ (λ e. b .seven (eqb-true c 7 e))
     (λ n7. by-cond P (eqb c 8) _ _ (λ e. b .eight (eqb-true c 8 e))
-    (λ n8. b .none (λ n. size-none c n (eqb-false c 1 n1) (eqb-false c 2 n2) (eqb-false c 3 n3) (eqb-false c 4 n4)
-    (eqb-false c 5 n5) (eqb-false c 6 n6) (eqb-false c 7 n7) (eqb-false c 8 n8))))))))))
+    (λ n8. by-cond P (eqb c 9) _ _ (λ e. b .nine (eqb-true c 9 e))
+    (λ n9. b .none (λ n. size-none c n (eqb-false c 1 n1) (eqb-false c 2 n2) (eqb-false c 3 n3) (eqb-false c 4 n4)
+    (eqb-false c 5 n5) (eqb-false c 6 n6) (eqb-false c 7 n7) (eqb-false c 8 n8) (eqb-false c 9 n9)))))))))))

@@ -30,7 +30,7 @@ size-two : (code count : ℕ) → 2 ≢ sizeOf code count
 unfolding sizeOf
 size-two code count =
     let not : ℕ → Type 0 = λ n. 2 ≢ n in
-    by-cond not (eqb code 1 || eqb code 8) 3 _ (λ _ e. omega arith)
+    by-cond not (eqb code 1 || eqb code 8 || eqb code 9) 3 _ (λ _ e. omega arith)
     (λ _. by-cond not (eqb code 2) 7 _ (λ _ e. omega arith)
     (λ _. by-cond not (eqb code 3 || eqb code 4) 5 _ (λ _ e. omega arith)
     (λ _. by-cond not (eqb code 5) 4 _ (λ _ e. omega arith)

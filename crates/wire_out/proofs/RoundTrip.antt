@@ -19,7 +19,7 @@ use Rattle.mask.proofs.Tests.{byCases}
 use Rattle.octets.specs.BigEndian.{Bytes, byteAt, bytesOf, numberOf}
 use Rattle.octets.proofs.BigEndian.{number-written}
 use Rattle.octets.proofs.Parts.{bytes-drop, number-take}
-use Rattle.requests.specs.Asks.{Ask, read, write, fetch, store, revoke, send, allocate, destroy, unknown, codeOf, PairsInBits, InBits, pairsIn}
+use Rattle.requests.specs.Asks.{Ask, read, write, fetch, store, revoke, send, allocate, destroy, reclaim, unknown, codeOf, PairsInBits, InBits, pairsIn}
 use Rattle.wire_out.specs.declared.Written.{Written}
 use Rattle.wire.specs.Wires.{codeIn, actorIn, countIn, sizeOf, listFits, fitsOf, listIn, fieldsOf, askFrom}
 use Rattle.wire_out.specs.Written.{pairBytes, fieldBytes, requestBytes, heldBytes, writtenOf}
@@ -55,6 +55,7 @@ module _ (bs : List ℕ) (b : Bytes bs) where
     six = λ e. (actor-in-bits, b 2, number-in-bits 3 4, list-in-bits, b _);
     seven = λ e. (actor-in-bits, b 2, b 3, number-in-bits 4 8, b 12, list-in-bits);
     eight = λ e. (actor-in-bits, b 2);
+    nine = λ e. (actor-in-bits, b 2);
     none = λ z. (b 0, actor-in-bits);
   })
 
@@ -69,6 +70,7 @@ ask-written (revoke a t j) h z = refl
 ask-written (send a t w l y) h z = send-written a t w l y h (z .2)
 ask-written (allocate a n k p i l) h z = allocate-written a n k p i l h (z .3)
 ask-written (destroy a t) h z = refl
+ask-written (reclaim a t) h z = refl
 ask-written (unknown c a) h z = unknown-written c a
 
 pub bytes-written : (bs : List ℕ) → Bytes bs → fitsOf bs ≡ true → requestBytes (askFrom bs) ≡ bs
@@ -86,6 +88,7 @@ code-read bs = by-cond (λ q. codeOf q ≡ codeIn bs) (fitsOf bs) _ _
       six = sym;
       seven = sym;
       eight = sym;
+      nine = sym;
       none = λ _. refl;
     }))
     (λ _. refl)
@@ -108,6 +111,7 @@ length-request (revoke a t j) h = omega arith
 length-request (send a t w l y) h = omega (arith, length-append (pairBytes l) (y ∷ []), length-pairs l)
 length-request (allocate a n k p i l) h = omega (arith, length-pairs l)
 length-request (destroy a t) h = omega arith
+length-request (reclaim a t) h = omega arith
 length-request (unknown c a) h = omega arith
 
 pub held-first : (bs : List ℕ) → length bs ≤ 22 → take (heldBytes bs .count) (heldBytes bs .bytes) ≡ bs

@@ -117,5 +117,6 @@ module _ (bs : List ℕ) (b : Bytes bs) (fit : fitsOf bs ≡ true) where
     six = send-back;
     seven = allocate-back;
     eight = λ e. wrote-plain bs _ 1 (size 8 e) (sym e) refl refl;
+    nine = λ e. wrote-plain bs _ 1 (size 9 e) (sym e) refl refl;
     none = λ z. absurd (omega (arith, some, z (countIn bs), size (codeIn bs) refl));
   })

@@ -8,7 +8,7 @@ use lib.ListN.{length}
 use Rattle.table.specs.Lists.{padded}
 use Rattle.requests.specs.declared.Pair.{Pair}
 use Rattle.octets.specs.BigEndian.{bytesOf}
-use Rattle.requests.specs.Asks.{Ask, read, write, fetch, store, revoke, send, allocate, destroy, unknown, codeOf, actorOf, pairsIn}
+use Rattle.requests.specs.Asks.{Ask, read, write, fetch, store, revoke, send, allocate, destroy, reclaim, unknown, codeOf, actorOf, pairsIn}
 use Rattle.wire_out.specs.declared.Written.{Written}
 
 -- "A pair is (actor's slot, destination slot)"
@@ -30,6 +30,7 @@ fieldBytes (revoke a t j) = t ∷ j ∷ []
 fieldBytes (send a t w l y) = t ∷ (bytesOf 4 w ++ (listBytes l ++ (y ∷ [])))
 fieldBytes (allocate a n k p i l) = n ∷ k ∷ (bytesOf 8 p ++ (i ∷ listBytes l))
 fieldBytes (destroy a t) = t ∷ []
+fieldBytes (reclaim a t) = t ∷ []
 fieldBytes (unknown c a) = []
 
 unfoldable pub requestBytes : Ask → List ℕ

@@ -169,6 +169,7 @@ pub fn request_bytes(request: Request, list: PairList) -> Written
             i,
         } => allocate_bytes(actor, n, kind, part, i, list),
         Request::Destroy { actor, t } => plain_bytes(8, actor, t, 0, 0, 3),
+        Request::Reclaim { actor, t } => plain_bytes(9, actor, t, 0, 0, 3),
         Request::Unknown { code, actor } => plain_bytes(code, actor, 0, 0, 0, 2),
     }
 }

@@ -11,8 +11,8 @@ extern "C" {
     fn peer_scan(table: *const raw::Table) -> u8;
 }
 
-/// The version that the comparison is for, 0.8.0: the first number times 65,536, the second times 256.
-pub const VERSION: u32 = 2048;
+/// The version that the comparison is for, 0.9.0: the first number times 65,536, the second times 256.
+pub const VERSION: u32 = 2304;
 
 /// The archive's calls, and the scan in C.
 pub trait Calls {

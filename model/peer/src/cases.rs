@@ -1,7 +1,7 @@
 //! The inputs that stack and instructions are measured on: for each call some that are done and some
 //! that are refused, on table K, on the filled table, and on 64 objects in a row, where a test takes the most rounds;
-//! tests with wk alone in many slots too, requests with empty copies, and images of either version of tables with makers
-//! and without.
+//! tests with wk alone in many slots too, requests with empty copies, reclaims, and images of either version of tables
+//! with makers and without.
 
 use yavrinks_model::access::potential_access;
 use yavrinks_model::chain::chain;
@@ -19,16 +19,16 @@ use yavrinks_tools::generate::{ConfinementCase, ShownCase};
 use crate::calls::{Call, Sample};
 use crate::samples::{farthest, imports, keeping, list_bytes, made_table};
 use crate::samples::{material_test, mended, own_test};
-use crate::samples::{places, requests, rows, unsound_at_the_end, with_slots_filled};
-use crate::samples::{Import, Keeping, Place};
+use crate::samples::{places, reclaims, requests, rows, unsound_at_the_end, with_slots_filled};
+use crate::samples::{Import, NamedStep, Place};
 
 /// The inputs of a call.
 pub fn samples(call: Call) -> Vec<Sample> {
     let places = places();
     match call {
         Call::Step | Call::Stepped => {
-            let keeping = keeping().into_iter().map(kept);
-            places.iter().flat_map(steps).chain(keeping).collect()
+            let named = keeping().into_iter().chain(reclaims()).map(named);
+            places.iter().flat_map(steps).chain(named).collect()
         }
         Call::Sound => tables().into_iter().map(sound).collect(),
         Call::Access => tables().into_iter().map(access).collect(),
@@ -66,7 +66,7 @@ fn steps(place: &Place) -> Vec<Sample> {
         .collect()
 }
 
-fn kept(case: Keeping) -> Sample {
+fn named(case: NamedStep) -> Sample {
     asked_of(case.name.to_string(), case.table, &case.request)
 }
 

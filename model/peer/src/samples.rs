@@ -4,7 +4,8 @@ use yavrinks_model::confinement::Entry;
 use yavrinks_model::links::Links;
 use yavrinks_model::set;
 use yavrinks_model::step::{step_in_place, Code, Fields, Request, NO_REPLY};
-use yavrinks_model::table::{Capability, Record, Table, ALL_RIGHTS, RD, SLOTS, TX, WK, WR};
+use yavrinks_model::table::{Capability, Record, Table};
+use yavrinks_model::table::{ALL_RIGHTS, DEAD, RD, SLOTS, TX, WK, WR};
 use yavrinks_model::take_grant::{READ, STORE};
 use yavrinks_model::wire::decode_list;
 use yavrinks_tools::generate::{full_import, numbers_where, sound_table, ConfinementCase, Shape};
@@ -216,9 +217,9 @@ pub fn mended(mut bytes: Vec<u8>) -> Vec<u8> {
     bytes
 }
 
-/// A request that leaves the slots that it copies to, and the table to measure it on.
+/// A request, and the table to measure it on.
 #[derive(Clone, Debug)]
-pub struct Keeping {
+pub struct NamedStep {
     pub name: &'static str,
     pub table: Table,
     pub request: Request,
@@ -227,7 +228,7 @@ pub struct Keeping {
 /// Three requests that are done and leave every slot. The copies of two come out empty: a send of four empty slots
 /// onto filled ones, and a fetch that is weakened to nothing, onto a filled slot too. A third is a fetch that is
 /// weakened to what the slot holds already. But for those four all slots of all 64 objects are filled.
-pub fn keeping() -> [Keeping; 3] {
+pub fn keeping() -> [NamedStep; 3] {
     let mut table = Table::unborn();
     for (n, record) in table.records.iter_mut().enumerate() {
         record.status = 1;
@@ -257,17 +258,17 @@ pub fn keeping() -> [Keeping; 3] {
         reply: NO_REPLY,
     };
     [
-        Keeping {
+        NamedStep {
             name: "send of four empty slots",
             table: sender,
             request: send,
         },
-        Keeping {
+        NamedStep {
             name: "fetch weakened to nothing",
             table,
             request: fetch.clone(),
         },
-        Keeping {
+        NamedStep {
             name: "fetch weakened to wk",
             table: weak,
             request: fetch,
@@ -275,20 +276,60 @@ pub fn keeping() -> [Keeping; 3] {
     ]
 }
 
-/// Each of the eight requests, done, then one refused by 6 and a nonsense code.
+/// Three reclaims that are done: on table K, where 2 holds the number too, and on a table with every slot of 63 alive
+/// objects filled. There the last number is dead, and either every slot names it and it made all others, or nothing
+/// names it but the slot that is used.
+pub fn reclaims() -> [NamedStep; 3] {
+    let (actor, t, target) = (5, 2, 6);
+    let mut small = busy_table();
+    small.record_mut(target).status = DEAD;
+    let mut alone = Table::unborn();
+    for (n, record) in alone.records.iter_mut().enumerate() {
+        record.status = 1;
+        record.kind = 1;
+        record.slots = [Capability::new((n as u8 + 1) % 63, WR); SLOTS];
+    }
+    *alone.record_mut(63) = Record {
+        status: DEAD,
+        kind: 1,
+        ..Record::UNBORN
+    };
+    let mut named = alone.clone();
+    for record in &mut named.records[..63] {
+        record.slots = [Capability::new(63, WR); SLOTS];
+        record.maker = 63;
+    }
+    alone.record_mut(actor).slots[usize::from(t)].target = 63;
+    let request = Request::Reclaim { actor, t };
+    [
+        ("reclaim, small table", small),
+        ("reclaim, 504 slots emptied", named),
+        ("reclaim, one slot emptied", alone),
+    ]
+    .map(|(name, table)| NamedStep {
+        name,
+        table,
+        request: request.clone(),
+    })
+}
+
+/// Each of the eight requests of document 01, done, then one refused by 6, a reclaim refused by 24 and a nonsense code.
 pub fn requests(table: &Table) -> Vec<(String, Request)> {
     let done = Code::ALL
         .into_iter()
         .filter_map(|code| Some((code.name().to_string(), find_request(table, code, 0)?)));
-    let refused =
-        find_request(table, Code::Write, 6).map(|request| (String::from("refused write"), request));
+    let refused = [(Code::Write, 6), (Code::Reclaim, 24)];
+    let refused = refused.into_iter().filter_map(|(code, reply)| {
+        let name = format!("refused {}", code.name());
+        Some((name, find_request(table, code, reply)?))
+    });
     let nonsense = Request::Unknown { code: 99, actor: 2 };
     done.chain(refused)
         .chain([(String::from("nonsense code"), nonsense)])
         .collect()
 }
 
-/// The first request of the code that gets the reply. All but allocate and destroy get it again on the
+/// The first request of the code that gets the reply. All but allocate, destroy and reclaim get it again on the
 /// table that they leave.
 fn find_request(table: &Table, code: Code, reply: u8) -> Option<Request> {
     let places = (0..64).flat_map(|actor| (0..8).map(move |t| (actor, t)));
@@ -296,7 +337,7 @@ fn find_request(table: &Table, code: Code, reply: u8) -> Option<Request> {
     candidates.find(|request| {
         let mut after = table.clone();
         step_in_place(&mut after, request) == reply
-            && (matches!(code, Code::Allocate | Code::Destroy)
+            && (matches!(code, Code::Allocate | Code::Destroy | Code::Reclaim)
                 || step_in_place(&mut after, request) == reply)
     })
 }

@@ -12,19 +12,20 @@ usage: yavrinks-peer COMMAND
       versions, as many imports of take-and-grant tables and as many inputs of the program confine.
       Prints how often each number was answered, how often a request that was done had an empty copy
       and what that met, how often a test was answered where a member holds wk alone that the list
-      lacks, how many rounds accepted tests took, and how often makers were recorded, found and
-      refused. At the first difference it prints the case and both answers.
+      lacks, how many rounds accepted tests took, how often makers were recorded, found and refused,
+      and what reclaims that were done emptied and reset. At the first difference it prints the case
+      and both answers.
       The same SEED asks the same on every machine. Without numbers: seed 1, 10000000 requests,
       1000000 inputs.
 
   bench
       Times each call of the archive and of the model in turn, on table K and on a table with every
-      slot filled, a send and a fetch whose copies come out empty, a fetch that is weakened to wk, the
-      test where members hold 64 wk alone and the list is empty, test and chain on 64 objects in a
-      row, upwards and downwards, images of both versions, soundness and images where every object
-      has a maker, the longest import and a small one, the chain against the test that it begins with,
-      and the step on a lent table against one soundness scan in C. Run it on a machine that does
-      nothing else.
+      slot filled, a send and a fetch whose copies come out empty, a fetch that is weakened to wk,
+      reclaims of a number that one slot, two slots and 504 slots name, the test where members hold
+      64 wk alone and the list is empty, test and chain on 64 objects in a row, upwards and downwards,
+      images of both versions, soundness and images where every object has a maker, the longest import
+      and a small one, the chain against the test that it begins with, and the step on a lent table
+      against one soundness scan in C. Run it on a machine that does nothing else.
 
   stack
       Measures how many bytes of stack each call of the archive takes (x86-64 alone). The header

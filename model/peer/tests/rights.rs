@@ -15,12 +15,12 @@ fn rows() -> Vec<Row> {
 fn the_archive_does_what_every_row_says() {
     let asked = asked(&rows());
     assert_eq!(sheet_fault(&Archive, &asked), None);
-    // Of the 16 values 12 may read and fetch, 8 write, store, revoke and destroy, 8 send; 32 fetches go through
-    // each. Through the empty slot all is answered 4.
-    let (done, empty) = (12 * (1 + 32) + 8 * 4 + 8, 6 + 32);
+    // Of the 16 values 12 may read and fetch, 8 write, store, revoke, destroy and reclaim, 8 send; 32 fetches go
+    // through each. Through the empty slot all is answered 4.
+    let (done, empty) = (12 * (1 + 32) + 8 * 5 + 8, 7 + 32);
     let count = |reply| asked.iter().filter(|one| one.reply == reply).count();
     assert_eq!((count(0), count(4)), (done, empty));
-    assert_eq!(count(6), 16 * (6 + 32) - done - empty);
+    assert_eq!(count(6), 16 * (7 + 32) - done - empty);
 }
 
 /// Every request is answered 1 where a slot has a value from 16 to 255, and the table is left as it was.

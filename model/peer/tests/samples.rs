@@ -6,20 +6,20 @@ use yavrinks_model::chain::chain;
 use yavrinks_model::confinement::{confinement_test, Tested};
 use yavrinks_model::set;
 use yavrinks_model::step::step;
-use yavrinks_model::table::WK;
+use yavrinks_model::table::{Table, NO_MAKER, WK};
 use yavrinks_model::take_grant;
 use yavrinks_model::wire::decode_list;
 use yavrinks_peer::calls::{answer, Call};
 use yavrinks_peer::cases::samples;
 use yavrinks_peer::samples::{farthest, held_list, imports, keeping, made_table};
 use yavrinks_peer::samples::{material_test, own_test};
-use yavrinks_peer::samples::{places, requests, rows, with_slots_filled};
+use yavrinks_peer::samples::{places, reclaims, requests, rows, with_slots_filled};
 use yavrinks_tools::empty_kinds::{empty_kinds, EmptyKind};
 use yavrinks_tools::generate::without_makers;
 use yavrinks_tools::generate::{CONFINEMENT_NUMBERS, IMPORT_NUMBERS, SHOWN_NUMBERS};
 
 #[test]
-fn both_tables_have_all_ten_requests() {
+fn both_tables_have_all_eleven_requests() {
     for place in places() {
         assert!(place.table.is_sound());
         let asked = requests(&place.table);
@@ -27,7 +27,12 @@ fn both_tables_have_all_ten_requests() {
             .iter()
             .map(|(_, request)| step(&place.table, request).0)
             .collect();
-        assert_eq!(replies, [0, 0, 0, 0, 0, 0, 0, 0, 6, 2], "{}", place.name);
+        assert_eq!(
+            replies,
+            [0, 0, 0, 0, 0, 0, 0, 0, 6, 24, 2],
+            "{}",
+            place.name
+        );
     }
 }
 
@@ -106,6 +111,42 @@ fn the_copies_that_are_measured_keep_every_slot() {
     }
 }
 
+/// Two slots name the number in the small table, all of 63 objects in the second and one in the third, where every slot
+/// of an alive object is filled; the second's number made them all. After the reclaim none is left, and nothing
+/// else has changed.
+#[test]
+fn the_reclaims_that_are_measured_empty_so_many_slots() {
+    for (case, (named, made, filled)) in
+        reclaims()
+            .into_iter()
+            .zip([(2, 0, 7), (504, 63, 504), (1, 0, 504)])
+    {
+        let (reply, after) = step(&case.table, &case.request);
+        assert_eq!(reply, 0, "{}", case.name);
+        let held = |table: &Table| {
+            table
+                .records
+                .iter()
+                .flat_map(|r| r.slots)
+                .collect::<Vec<_>>()
+        };
+        let changed = held(&case.table)
+            .iter()
+            .zip(held(&after))
+            .filter(|(before, after)| *before != after)
+            .count();
+        assert_eq!(changed, named, "{}", case.name);
+        let slots = held(&case.table).into_iter();
+        assert_eq!(slots.filter(|slot| !slot.is_empty()).count(), filled);
+        let makers = case.table.records.iter().filter(|r| r.maker != NO_MAKER);
+        assert_eq!((makers.count(), after.has_makers()), (made, false));
+        assert_eq!(
+            after.born().count_ones() + 1,
+            case.table.born().count_ones()
+        );
+    }
+}
+
 /// No object has a longer chain than the one that is measured, and none below it as long a one.
 #[test]
 fn the_chain_that_is_measured_is_the_longest() {
@@ -154,7 +195,9 @@ fn the_table_with_makers_is_the_filled_one_with_every_object_made() {
 #[test]
 fn these_calls_are_measured_with_every_number() {
     for (call, numbers) in [
-        (Call::Test, &CONFINEMENT_NUMBERS[..]),
+        (Call::Step, &[0, 1, 2, 6, 24][..]),
+        (Call::Stepped, &[0, 1, 2, 6, 24]),
+        (Call::Test, &CONFINEMENT_NUMBERS),
         (Call::Chain, &SHOWN_NUMBERS),
         (Call::Read, &[0, 1, 14, 15]),
         (Call::Import, &IMPORT_NUMBERS),

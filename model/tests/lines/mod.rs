@@ -119,12 +119,15 @@ impl TestLine {
     }
 }
 
-/// A request has the fields that its code has, and no others.
+/// A request has the fields that its code has, and no others. Before 2.8 a line with code 9 has its actor alone:
+/// that is no reclaim, which has a slot.
 fn request(value: &Json) -> Request {
     let (code, actor) = (byte(field(value, "code")), byte(field(value, "actor")));
     let word = value.get("word").map_or(0, number);
-    let Some(known) = Code::of(code) else {
-        return Request::Unknown { code, actor };
+    let of_earlier = code == Code::Reclaim.number() && value.get("t").is_none();
+    let known = match Code::of(code) {
+        Some(known) if !of_earlier => known,
+        _ => return Request::Unknown { code, actor },
     };
     known.request(Fields {
         actor,

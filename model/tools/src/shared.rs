@@ -78,6 +78,16 @@ pub fn shared_steps_with_makers() -> Vec<SharedStep> {
     steps_in(include_str!("../../vectors/2.7/steps.jsonl"))
 }
 
+/// Every step in `vectors/2.8`, in the order of the file.
+pub fn shared_steps_with_reclaims() -> Vec<SharedStep> {
+    steps_in(include_str!("../../vectors/2.8/steps.jsonl"))
+}
+
+/// Every test in `vectors/2.8`, in the order of the file: the same as those of 2.7.
+pub fn shared_tests_with_reclaims() -> Vec<SharedTest> {
+    tests_in(include_str!("../../vectors/2.8/tests.jsonl"))
+}
+
 /// Every image in `vectors/2.7`, read or written, in the order of the file.
 pub fn shared_images() -> Vec<ImageLine> {
     let lines = values(include_str!("../../vectors/2.7/images.jsonl"));

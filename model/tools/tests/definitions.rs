@@ -14,6 +14,9 @@ use yavrinks_tools::definitions::cases::{subjects, Answer, Case, Part, Question}
 use yavrinks_tools::definitions::crates::{case_crates, CaseCrate};
 use yavrinks_tools::definitions::draw::{cases, questions, Counts};
 use yavrinks_tools::definitions::misread_makers;
+use yavrinks_tools::definitions::misread_reclaim::{
+    misread_after, misread_clean, misread_steps, CLEAN_READINGS,
+};
 use yavrinks_tools::definitions::scratch::Scratch;
 use yavrinks_tools::definitions::specs::{unfoldable, unfoldable_names, with_all_below};
 use yavrinks_tools::definitions::statements::declarations;
@@ -23,11 +26,12 @@ use yavrinks_tools::definitions::{summary, terms, Options};
 use yavrinks_tools::empty_kinds::{empty_kinds, EmptyKind};
 use yavrinks_tools::generate::{any_damage, any_sound_table, encode_input};
 use yavrinks_tools::generate::{ConfinementCase, ShownCase};
+use yavrinks_tools::misread_reclaim::Misread;
 use yavrinks_tools::misread_rounds::{Misreading, MISREADINGS};
 use yavrinks_tools::rng::Rng;
 use yavrinks_tools::shared::{
-    shared_imports, shared_rounds, shared_steps, shared_steps_with_makers, shared_tests,
-    shared_tests_with_makers,
+    shared_imports, shared_rounds, shared_steps, shared_steps_with_makers,
+    shared_steps_with_reclaims, shared_tests, shared_tests_with_reclaims,
 };
 
 /// Nothing at all, for a test that asks for something by itself.
@@ -117,11 +121,13 @@ fn requests_have_their_fields_in_the_order_of_document_01() {
         list: vec![],
     };
     assert_eq!(terms::ask(&allocate), "allocate 1 2 3 4 5 ([])");
+    let reclaim = Request::Reclaim { actor: 1, t: 2 };
+    assert_eq!(terms::ask(&reclaim), "reclaim 1 2");
     let unknown = Request::Unknown {
-        code: 9,
+        code: 10,
         actor: 200,
     };
-    assert_eq!(terms::ask(&unknown), "unknown 9 200");
+    assert_eq!(terms::ask(&unknown), "unknown 10 200");
 }
 
 /// Reads a term for a table back, word by word.
@@ -482,14 +488,17 @@ fn clean_case(parts: &[Part]) -> Case {
 }
 
 #[test]
-fn clean_objects_are_stated_in_four_parts_or_one() {
+fn clean_objects_are_stated_in_five_parts_or_one() {
     let text = declarations(&clean_case(&Part::ALL), 3, "A.b");
     let at_start = "cleanAtStart table-0003 32 list-0003";
     let from = format!("table-0003 ({at_start}) requests-0003");
+    let compared = format!("comparedAtStart table-0003 ({at_start})");
+    let compared = format!("comparedAtEnd table-0003 ({at_start}) ({compared}) requests-0003");
     let statement = format!(
-        "case-0003 : _≡_ {{A = ℕ × ℕ × List Ask × List ℕ}} (bits 64 ({at_start}), \
-         bits 64 (cleanAtEnd {from}), cleanRequests {from}, map number (cleanReplies {from})) \
-         (88, 88, asked-0003, 6 ∷ [])\n"
+        "case-0003 : _≡_ {{A = ℕ × ℕ × ℕ × List Ask × List ℕ}} (bits 64 ({at_start}), \
+         bits 64 (cleanAtEnd {from}), bits 64 (inBoth (cleanAtEnd {from}) ({compared})), \
+         cleanRequests {from}, map number (cleanReplies {from})) \
+         (88, 88, 88, asked-0003, 6 ∷ [])\n"
     );
     assert!(text.contains(&statement), "{text}");
     assert!(text.contains("asked-0003 = read 4 0 ∷ []\n"));
@@ -524,8 +533,9 @@ fn the_default_run_asks_everything() {
         .iter()
         .map(|case| (case.question.subject(), case.answer.number()))
         .collect();
-    let expected: [(&str, &[u8]); 28] = [
+    let expected: [(&str, &[u8]); 30] = [
         ("clean along a run", &[0]),
+        ("clean after one", &[0]),
         ("1 read", &[0, 1, 2, 3, 4, 5, 6]),
         ("2 write", &[0, 1, 2, 3, 4, 5, 6]),
         ("3 fetch", &[0, 1, 2, 3, 4, 5, 6]),
@@ -534,6 +544,7 @@ fn the_default_run_asks_everything() {
         ("6 send", &[0, 1, 2, 3, 4, 5, 6, 7]),
         ("7 allocate", &[0, 1, 2, 3, 9]),
         ("8 destroy", &[0, 1, 2, 3, 4, 5, 6, 8]),
+        ("9 reclaim", &[0, 1, 2, 3, 4, 6, 24]),
         ("unknown code", &[1, 2]),
         ("where a copy lands", &[0]),
         ("worth of rights", &[0]),
@@ -578,24 +589,27 @@ fn the_runs_have_whatever_could_be_taken_for_clean() {
         assert!(count.parse::<u64>().expect("number") >= 10, "{text}");
         kinds += 1;
     }
-    assert_eq!(kinds, 11);
+    assert_eq!(kinds, 16);
 }
 
-/// The runs start from tests that are accepted, and leave something clean; one of them is empty.
+/// The runs start from tests that are accepted, with something clean; one of them is empty. In some a number that was
+/// clean at the start is reclaimed, and in some a maker is left out.
 #[test]
 fn the_runs_start_with_clean_objects() {
-    let mut empty = 0;
-    for case in cases_of(2, 24, 0) {
+    let (mut empty, mut lost, mut left_out) = (0, 0, 0);
+    for case in cases_of(2, 48, 0) {
         let (Question::Clean { requests, .. }, Answer::Clean(start, part)) =
             (&case.question, &case.answer)
         else {
             panic!("{case:?}");
         };
         assert_ne!(*start, 0);
-        assert_eq!(start & part.clean, *start);
+        lost += usize::from(start & part.clean != *start);
+        left_out += usize::from(part.compared != part.clean);
         empty += usize::from(requests.is_empty());
     }
     assert_eq!(empty, 1);
+    assert!(lost >= 1 && left_out >= 10, "{lost} {left_out}");
 }
 
 #[test]
@@ -622,7 +636,9 @@ fn shared_tests_are_asked_on_demand() {
     let counts = |tests| Counts { tests, ..NOTHING };
     let asked = cases(1, &counts(1000));
     assert_eq!(asked.len(), 80 + 160 + 80);
-    let shared = shared_tests_with_makers().into_iter().chain(shared_tests());
+    let shared = shared_tests_with_reclaims()
+        .into_iter()
+        .chain(shared_tests());
     let shared = shared.chain(shared_rounds());
     for (case, shared) in asked.iter().zip(shared) {
         let Answer::Tested(tested) = case.answer else {
@@ -640,8 +656,11 @@ fn shared_tests_are_asked_on_demand() {
 fn shared_steps_are_asked_on_demand() {
     let counts = |steps| Counts { steps, ..NOTHING };
     let asked = cases(1, &counts(1000));
-    assert_eq!(asked.len(), 160 + 160);
-    let shared = shared_steps_with_makers().into_iter().chain(shared_steps());
+    assert_eq!(asked.len(), 160 + 160 + 160);
+    let shared = shared_steps_with_reclaims().into_iter();
+    let shared = shared
+        .chain(shared_steps_with_makers())
+        .chain(shared_steps());
     for (case, shared) in asked.iter().zip(shared) {
         let (reply, after) = shared.answer;
         assert_eq!(case.answer, Answer::Table(reply, after));
@@ -772,13 +791,14 @@ fn every_byte_is_asked_as_rights() {
 
 #[test]
 fn wrong_answers_differ_from_the_right_ones() {
-    let cases = cases_of(6, 24, 1);
-    let wrong = wrong_cases(&mut Rng::new(6), &cases);
+    let cases = cases_of(9, 24, 1);
+    let wrong = wrong_cases(&mut Rng::new(9), &cases);
     for case in &wrong {
         assert_ne!(case, &Case::new(case.question.clone()));
     }
     let is_clean = |case: &&Case| matches!(case.question, Question::Clean { .. });
-    assert_eq!(wrong.iter().filter(is_clean).count(), Part::ALL.len());
+    let of_clean = Part::ALL.len() + CLEAN_READINGS;
+    assert_eq!(wrong.iter().filter(is_clean).count(), of_clean);
     let is_import = |case: &&Case| matches!(case.question, Question::Import { .. });
     assert_eq!(wrong.iter().filter(is_import).count(), 3);
     // Of a list where all pass and of one where some do not, every rights value.
@@ -795,10 +815,19 @@ fn wrong_answers_differ_from_the_right_ones() {
     };
     let worth = wrong.iter().filter(is_worth).count();
     assert_eq!(worth, (4 + 3 + 1) * 16);
-    // Of steps a wrong number, wrong content, the ten kinds where an empty copy emptied a slot, and the six wrong
-    // readings of who is recorded.
+    // Of the clean objects after one request, wrong content, and the wrong readings: of making by another, of a
+    // reclaim twice, by two readings, and of a destroy.
+    let is_after = |case: &&Case| matches!(case.question, Question::CleanAfter { .. });
+    let of_after = 1 + 1 + 2 * 2 + 1;
+    assert_eq!(wrong.iter().filter(is_after).count(), of_after);
+    // Of steps a wrong number, wrong content, the ten kinds where an empty copy emptied a slot, the six wrong
+    // readings of who is recorded, and those of a reclaim.
+    let of_reclaims = Misread::ALL.len();
     let is_step = |case: &&Case| matches!(case.question, Question::Step { .. });
-    assert_eq!(wrong.iter().filter(is_step).count(), 2 + 10 + 6);
+    assert_eq!(
+        wrong.iter().filter(is_step).count(),
+        2 + 10 + 6 + of_reclaims
+    );
     // Of what is there in a test of three rounds, a round more at none, one and two.
     let is_there = |case: &&Case| matches!(case.question, Question::There { .. });
     assert_eq!(wrong.iter().filter(is_there).count(), 3);
@@ -812,7 +841,38 @@ fn wrong_answers_differ_from_the_right_ones() {
     // Of each of eight other kinds a wrong number and wrong content, of least chains wrong content.
     let others = 2 * 8 + 1;
     let listed = 3 + 2 * 16 + 16 + worth + 12 + 3 + 2 + MISREADINGS.len() + 3 * 10 + of_makers;
-    assert_eq!(wrong.len(), Part::ALL.len() + listed + others);
+    let of_2_8 = of_clean + of_after + of_reclaims;
+    assert_eq!(wrong.len(), of_2_8 + listed + others);
+}
+
+/// In the default run each wrong reading of 2.8 has a statement of its own.
+#[test]
+fn wrong_reclaims_are_among_the_wrong_answers() {
+    let cases = default_cases();
+    assert_eq!(misread_steps(&cases).len(), Misread::ALL.len());
+    assert_eq!(misread_clean(&cases).len(), CLEAN_READINGS);
+    // A number that stays clean when another makes it anew is among those.
+    let made_anew = misread_after(&cases).into_iter().filter(|case| {
+        let request = match &case.question {
+            Question::CleanAfter { request, .. } => request,
+            _ => return false,
+        };
+        matches!(request, Request::Allocate { .. })
+    });
+    assert_eq!(made_anew.count(), 1);
+}
+
+#[test]
+fn clean_after_one_is_stated_for_any_set() {
+    let case = Case::new(Question::CleanAfter {
+        table: Table::k(),
+        clean: 24,
+        request: Request::Reclaim { actor: 4, t: 0 },
+    });
+    let text = declarations(&case, 2, "A.b");
+    let statement = "case-0002 : _≡_ {A = ℕ} \
+        (bits 64 (cleanAfter table-0002 (among 24) (reclaim 4 0))) 24\n";
+    assert!(text.contains(statement), "{text}");
 }
 
 /// In the default run each wrong reading of 2.7 has a statement of its own.

@@ -37,7 +37,7 @@ fn the_models_steps_are_as_the_rows_say() {
 fn every_value_is_asked_for_with_every_request() {
     let rows = rows_of_model();
     let all = asked(&rows);
-    assert_eq!(all.len(), 16 * (6 + 2 * 16));
+    assert_eq!(all.len(), 16 * (7 + 2 * 16));
     for row in &rows {
         for code in Code::ALL {
             let replies = all
@@ -56,7 +56,7 @@ fn every_value_is_asked_for_with_every_request() {
             assert_eq!(replies, vec![expected; times], "{} {code:?}", row.value);
         }
     }
-    assert_eq!(asked_above().len(), 240 * 9);
+    assert_eq!(asked_above().len(), 240 * 10);
 }
 
 /// The rights in the slots that a request changes.
@@ -88,7 +88,7 @@ fn every_value_is_fetched_with_rd_and_without() {
     }
 }
 
-/// The seven requests that use a slot stand in one column each, beside others that need the same.
+/// The eight requests that use a slot stand in one column each, beside others that need the same.
 #[test]
 fn every_request_that_uses_a_slot_has_its_column() {
     for code in Code::ALL {

@@ -7,11 +7,11 @@ use yavrinks_model::runs::run;
 use yavrinks_model::set;
 use yavrinks_model::step::{step, step_in_place, weaken, Pair, Request};
 use yavrinks_model::table::{Capability, Record, Slots, Table};
-use yavrinks_model::table::{ACTIVE, ALIVE, ALL_RIGHTS, DEAD, RD, TX, WK, WR};
+use yavrinks_model::table::{ACTIVE, ALIVE, ALL_RIGHTS, DEAD, PASSIVE, RD, TX, UNBORN, WK, WR};
 use yavrinks_tools::empty_kinds::{empty_kinds, EmptyKind};
 use yavrinks_tools::generate::{
     any_request, any_sound_table, can_meet, empty_copy_case, likely_request, sound_table,
-    step_case, Shape,
+    step_case, Shape, STEP_REPLIES,
 };
 use yavrinks_tools::rng::Rng;
 
@@ -62,6 +62,7 @@ fn expected_slot(before: &Table, request: &Request, n: u8, k: u8) -> Capability 
             _ => old,
         },
         Request::Destroy { .. } if at_target => Capability::EMPTY,
+        Request::Reclaim { t, .. } if old.target == own[*t as usize].target => Capability::EMPTY,
         _ => old,
     }
 }
@@ -92,6 +93,9 @@ fn expected_stock(before: &Table, request: &Request, n: u8) -> u64 {
             Some(target) if n == request.actor() => old | before.record(target).stock,
             _ => old,
         },
+        Request::Reclaim { .. } if n == request.actor() => {
+            old | 1 << target_of(before, request).expect("target")
+        }
         _ => old,
     }
 }
@@ -108,6 +112,11 @@ fn expected_record(before: &Table, request: &Request, n: u8) -> Record {
         Request::Destroy { .. } if target_of(before, request) == Some(n) => {
             (DEAD, old.kind, old.maker)
         }
+        Request::Reclaim { .. } => match target_of(before, request) {
+            Some(target) if target == n => (UNBORN, PASSIVE, 64),
+            Some(target) if target == old.maker => (old.status, old.kind, 64),
+            _ => (old.status, old.kind, old.maker),
+        },
         _ => (old.status, old.kind, old.maker),
     };
     let mut slots = old.slots;
@@ -155,9 +164,10 @@ fn limits(request: &Request) -> Vec<(usize, usize)> {
         fields
     };
     match request {
-        Request::Read { t, .. } | Request::Write { t, .. } | Request::Destroy { t, .. } => {
-            slots(&[t])
-        }
+        Request::Read { t, .. }
+        | Request::Write { t, .. }
+        | Request::Destroy { t, .. }
+        | Request::Reclaim { t, .. } => slots(&[t]),
         Request::Fetch { t, i, j, .. } | Request::Store { t, i, j, .. } => slots(&[t, i, j]),
         Request::Revoke { t, j, .. } => slots(&[t, j]),
         Request::Send {
@@ -177,9 +187,9 @@ fn limits(request: &Request) -> Vec<(usize, usize)> {
     }
 }
 
-/// The reply for a sound table: the least number among all causes that are met, or 0.
+/// The reply for a sound table: of all causes that are met the one that is checked first, or 0.
 fn first_cause(table: &Table, request: &Request) -> u8 {
-    let mut causes = BTreeSet::new();
+    let mut causes = Vec::new();
     let actor = request.actor() as usize;
     let out_of_range = |&(value, highest): &(usize, usize)| value > highest;
     if actor > 63 || limits(request).iter().any(out_of_range) {
@@ -187,20 +197,22 @@ fn first_cause(table: &Table, request: &Request) -> u8 {
     }
     let record = &table.records[actor];
     if record.status != ALIVE || record.kind != ACTIVE {
-        causes.insert(3);
+        causes.push(3);
     }
     if let Request::Allocate { n, part, .. } = request {
         let rest: BTreeSet<u8> = set::numbers(record.stock).filter(|m| m != n).collect();
         if !set::contains(record.stock, *n) || set::numbers(*part).any(|m| !rest.contains(&m)) {
-            causes.insert(9);
+            causes.push(9);
         }
     } else {
         causes.extend(used_slot_causes(table, request));
     }
-    causes.first().copied().unwrap_or(0)
+    // 24 is between 4 and 6.
+    let place = |&cause: &u8| if cause == 24 { 5 } else { cause };
+    causes.into_iter().min_by_key(place).unwrap_or(0)
 }
 
-/// The causes 4 to 8 that are met. An empty slot names no target that could give others.
+/// The causes 4 to 8, and 24, that are met. An empty slot names no target that could give others.
 fn used_slot_causes(table: &Table, request: &Request) -> Vec<u8> {
     let (t, _) = request.used_slot().expect("slot");
     let used = table.record(request.actor()).slots[t as usize];
@@ -213,12 +225,14 @@ fn used_slot_causes(table: &Table, request: &Request) -> Vec<u8> {
         Request::Write { .. }
         | Request::Store { .. }
         | Request::Revoke { .. }
-        | Request::Destroy { .. } => WR,
+        | Request::Destroy { .. }
+        | Request::Reclaim { .. } => WR,
         Request::Allocate { .. } | Request::Unknown { .. } => panic!("no slot is used"),
     };
     let target = table.record(used.target);
     let met = [
-        (5, target.status == DEAD),
+        (24, request.code() == 9 && target.status == ALIVE),
+        (5, request.code() != 9 && target.status == DEAD),
         (6, used.rights & needed == 0),
         (7, request.code() == 6 && target.kind != ACTIVE),
         (8, request.code() == 8 && used.target == request.actor()),
@@ -230,8 +244,8 @@ fn used_slot_causes(table: &Table, request: &Request) -> Vec<u8> {
 fn every_reply_of_every_request_is_reached() {
     let mut rng = Rng::new(10);
     let mut counts: BTreeMap<(u8, u8), u32> = BTreeMap::new();
-    for code in (0..=9).chain([100, 255]) {
-        for aim in (0..=9).filter(|&aim| can_meet(code, aim)) {
+    for code in (0..=10).chain([100, 255]) {
+        for aim in STEP_REPLIES.into_iter().filter(|&aim| can_meet(code, aim)) {
             for _ in 0..150 {
                 let case = step_case(&mut rng, code, aim);
                 let (reply, after) = step(&case.table, &case.request);
@@ -247,9 +261,9 @@ fn every_reply_of_every_request_is_reached() {
         }
     }
     assert!(counts.values().all(|&count| count == 150));
-    // Seven requests with a slot get 0 to 6, send also 7, destroy also 8; allocate gets five
-    // replies; each of the four unknown codes gets 1 and 2.
-    assert_eq!(counts.len(), 7 * 7 + 2 + 5 + 4 * 2);
+    // Seven requests with a slot get 0 to 6, send also 7, destroy also 8; reclaim gets seven, 24 in the place of 5;
+    // allocate gets five replies; each of the four unknown codes gets 1 and 2.
+    assert_eq!(counts.len(), 7 * 7 + 2 + 7 + 5 + 4 * 2);
 }
 
 #[test]
@@ -263,7 +277,8 @@ fn arbitrary_requests_agree_with_the_formulas() {
         let request = likely_request(&mut rng, &table);
         replies.insert(checked_step(&table, &request).0);
     }
-    assert_eq!(replies, (0..=9).filter(|&reply| reply != 1).collect());
+    let sound = STEP_REPLIES.into_iter().filter(|&reply| reply != 1);
+    assert_eq!(replies, sound.collect());
 }
 
 #[test]
@@ -287,7 +302,7 @@ fn runs_reach_every_request_done_and_chain_their_tables() {
         }
         assert_eq!(run(&start, &requests), (replies, table));
     }
-    for code in 1..=8 {
+    for code in 1..=9 {
         let count = done.get(&code).copied().unwrap_or(0);
         assert!(count >= 100, "code {code} was done {count} times");
     }

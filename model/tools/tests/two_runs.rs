@@ -4,18 +4,19 @@
 use std::process::Command;
 
 use yavrinks_model::confinement::confinement_test;
-use yavrinks_model::runs::{clean_at_start, clean_part, run};
+use yavrinks_model::runs::{claimed_record, clean_at_start, clean_part, run};
 use yavrinks_model::set;
 use yavrinks_model::step::{step, Request};
 use yavrinks_model::table::Table;
 use yavrinks_tools::empty_kinds::EmptyKind;
 use yavrinks_tools::generate::{
     any_request, any_sound_table, can_meet, confinement_case, empty_copy_case, likely_request,
-    step_case, CONFINEMENT_NUMBERS,
+    step_case, CONFINEMENT_NUMBERS, STEP_REPLIES,
 };
 use yavrinks_tools::rng::Rng;
-use yavrinks_tools::two_runs::rules::{Access, Naming, Rounds, StandIn, Unlisted};
+use yavrinks_tools::two_runs::rules::{Access, Compared, Naming, Rounds, StandIn, Unlisted};
 use yavrinks_tools::two_runs::rules::{Destroyed, Empty, Makers, Makes, Recorded};
+use yavrinks_tools::two_runs::rules::{Joins, Left, Reclaimable};
 use yavrinks_tools::two_runs::rules::{Rules, Weakening, BROKEN};
 use yavrinks_tools::two_runs::runs::Move;
 use yavrinks_tools::two_runs::shrink::{replay, shrink};
@@ -48,7 +49,21 @@ fn the_model_keeps_the_claim() {
     assert!(trial.made_by_members > 100, "{}", trial.made_by_members);
     assert!(trial.made_by_others > 100, "{}", trial.made_by_others);
     assert!(trial.maker_dead_in_one > 20, "{}", trial.maker_dead_in_one);
-    for code in 1..=8 {
+    assert!(trial.makers_compared > 2000 && trial.makers_compared_with > 500);
+    assert!(trial.makers_left_out > 300 && trial.makers_that_differ > 20);
+    assert!(trial.reclaimed_in_one > 100);
+    let tally = &trial.tally;
+    assert!(tally.reclaimed_held > 200 && tally.reclaimed_held_across > 50);
+    assert!(tally.makers_taken > 50, "{}", tally.makers_taken);
+    let (clean, others) = (tally.anew_by_clean, tally.anew_by_others);
+    assert!(
+        clean.by_same > 20 && others.by_same > 50,
+        "{clean:?} {others:?}"
+    );
+    assert!(clean.by_another + others.by_another > 5);
+    // What is reclaimed stays on its side.
+    assert_eq!(clean.crossed + others.crossed, 0);
+    for code in 1..=9 {
         let (clean, others) = trial.tally.by_code(code);
         let counts = [clean.done, clean.refused, others.done, others.refused];
         assert!(
@@ -134,6 +149,7 @@ fn start_tables_differ_in_members_alone() {
 #[test]
 fn drawn_pairs_are_two_runs_of_the_claim() {
     let mut rng = Rng::new(51);
+    let mut left_out = 0;
     for _ in 0..300 {
         let drawn = draw_pair(&Rules::DOCUMENT, &mut rng);
         let start = &drawn.start;
@@ -154,13 +170,18 @@ fn drawn_pairs_are_two_runs_of_the_claim() {
         let (_, first_end) = run(&start.first, &first);
         let (_, second_end) = run(&start.second, &second);
         for n in set::numbers(part.clean) {
-            assert_eq!(first_end.record(n), second_end.record(n));
+            let [first, second] =
+                [&first_end, &second_end].map(|end| claimed_record(end, part.compared, n));
+            assert_eq!(first, second);
+            left_out += u32::from(first_end.record(n) != second_end.record(n));
         }
         let runs = drawn.runs.expect("two runs");
         assert_eq!(runs.first.table, first_end);
         assert_eq!(runs.second.table, second_end);
         assert_eq!(runs.first.clean, part.clean);
+        assert_eq!(runs.first.compared, part.compared);
     }
+    assert!(left_out > 10, "{left_out}");
 }
 
 fn assert_same_step(rules: &Rules, table: &Table, request: &Request) {
@@ -179,8 +200,8 @@ fn with_nothing_broken_a_step_is_the_models_step() {
         let request = likely_request(&mut rng, &table);
         assert_same_step(&Rules::DOCUMENT, &table, &request);
     }
-    for code in 1..=8 {
-        for aim in (0..=9).filter(|&aim| can_meet(code, aim)) {
+    for code in 1..=9 {
+        for aim in STEP_REPLIES.into_iter().filter(|&aim| can_meet(code, aim)) {
             for _ in 0..100 {
                 let case = step_case(&mut rng, code, aim);
                 assert_same_step(&Rules::DOCUMENT, &case.table, &case.request);
@@ -217,12 +238,18 @@ fn may_change(rules: &Rules, code: u8) -> bool {
         3 => weakening || empty,
         4 | 6 => empty,
         7 => empty || rules.makes != Makes::OwnStock || rules.recorded != Recorded::Actor,
-        8 => rules.destroyed != Destroyed::Kind || rules.makers == Makers::GoWithMaker,
+        8 => rules.destroyed != Destroyed::Kind,
+        9 => {
+            rules.reclaimable != Reclaimable::ByWr
+                || rules.left != Left::Nothing
+                || rules.joins != Joins::Actor
+        }
         _ => false,
     }
 }
 
-/// A broken model departs from the document in steps of few codes or in the test, never in both.
+/// A broken model departs from the document in steps of few codes, in the test or in what is compared, never in two of
+/// these.
 #[test]
 fn a_broken_rule_leaves_the_rest_as_it_is() {
     let mut rng = Rng::new(54);
@@ -233,8 +260,11 @@ fn a_broken_rule_leaves_the_rest_as_it_is() {
             && rules.naming == Naming::All
             && rules.stand_in == StandIn::List
             && rules.rounds == Rounds::AsWritten;
-        let steps_are_whole = !(1..=8).any(|code| may_change(rules, code));
-        assert_ne!(test_is_whole, steps_are_whole, "{}", broken.name);
+        let steps_are_whole = !(1..=9).any(|code| may_change(rules, code));
+        let claim_is_whole = rules.compared == Compared::MadeByClean;
+        let whole = [test_is_whole, steps_are_whole, claim_is_whole];
+        let broken_parts = whole.iter().filter(|part| !**part).count();
+        assert_eq!(broken_parts, 1, "{}", broken.name);
         for _ in 0..300 {
             let table = any_sound_table(&mut rng);
             let request = likely_request(&mut rng, &table);

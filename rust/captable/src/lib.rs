@@ -1,7 +1,7 @@
 //! The capability table of a sealed controller, proved against its written model, for Rust.
 //!
 //! The calls are those of `libcaptable.a`, which `rt staticlib captable` proves and writes. This crate
-//! gives them types: a [`Table`] of 64 objects with eight slots each, a [`Request`] of eight kinds,
+//! gives them types: a [`Table`] of 64 objects with eight slots each, a [`Request`] of nine kinds,
 //! potential access as a [`Relation`], the confinement test with its [`Finding`], the [`Chain`] to an object of its
 //! bound, images, and [imports](Table::import) of take-and-grant tables. A refusal is a value with the number of
 //! document 01 or 02, and changes neither the table nor any buffer.
@@ -41,8 +41,8 @@
 //! # Who made it
 //!
 //! Each record says [who made the object](Record::made_by): the actor of its allocate, or nobody for an object that was
-//! not made in a run. So a table of zeros is not sound, for its unborn records have the maker 0: a new one begins as
-//! [`Table::unborn`].
+//! not made in a run or whose maker's number was [reclaimed](#dead-numbers-again). A table of zeros is not sound, for
+//! its unborn records have the maker 0: a new one begins as [`Table::unborn`].
 //!
 //! Images of version 2, [`IMAGE_BYTES`] long, have the makers. Those of version 1, [`OLDER_IMAGE_BYTES`] long, have no
 //! place for them. Both are [read](Table::from_image), and a table goes [back to version 1](Table::to_older_image) as
@@ -63,6 +63,52 @@
 //! assert_eq!(table.record(10).made_by(), Some(5));
 //! assert_eq!(table.record(5).made_by(), None);
 //! assert_eq!(table.to_older_image(), Err(WriteOlderRefusal::MakerRecorded));
+//! # Ok::<(), StepRefusal>(())
+//! ```
+//!
+//! # Dead numbers again
+//!
+//! A [destroy](Request::Destroy) leaves a dead number, and a [reclaim](Request::Reclaim) makes of a dead number an
+//! unborn one, in the stock of whoever asked. It needs wr over it, and no more: who else holds a capability over the
+//! number is not asked, does not stand in the way, and cannot be told from the reply.
+//!
+//! | what names the number | after the reclaim |
+//! |---|---|
+//! | a slot of any object, active or passive, whatever its rights | empty; its holder is not told, and is answered 4 when it uses the slot |
+//! | the [maker](Record::made_by) of any object | nobody |
+//! | its own record | [`Record::UNBORN`] |
+//!
+//! Whatever is made of it afterwards is another object. A mailbox, a queued request or a set of members that the
+//! firmware keeps by number was the old one's, and has to be cleared when the object is destroyed or its number
+//! reclaimed.
+//!
+//! ```
+//! use captable::{Capability, PairList, Record, Request, Set, StepRefusal, Table, ACTIVE, ALIVE, WK};
+//!
+//! // 5 makes 10 of its stock and holds it in slot 0; 6 comes to read it weakly.
+//! let mut table = Table::unborn();
+//! for n in [5, 6] {
+//!     table.record_mut(n).status = ALIVE;
+//!     table.record_mut(n).kind = ACTIVE;
+//! }
+//! table.record_mut(5).stock = Set::of(&[10]);
+//! let (part, list) = (Set::EMPTY, PairList::EMPTY);
+//! let make = Request::Allocate { actor: 5, n: 10, kind: ACTIVE, part, i: 0, list };
+//! table.step(&make)?;
+//! *table.slot_mut(6, 0) = Capability { target: 10, rights: WK };
+//!
+//! // The number comes back when 10 is dead, and not before.
+//! let reclaim = Request::Reclaim { actor: 5, t: 0 };
+//! assert_eq!(table.step(&reclaim), Err(StepRefusal::TargetAlive));
+//! table.step(&Request::Destroy { actor: 5, t: 0 })?;
+//! table.step(&reclaim)?;
+//! assert_eq!(*table.record(10), Record::UNBORN);
+//! assert_eq!(table.record(5).stock, Set::of(&[10]));
+//! assert_eq!(*table.slot(6, 0), Capability::EMPTY);
+//!
+//! // It is made again, and 6 has nothing over the new object.
+//! table.step(&make)?;
+//! assert_eq!(table.step(&Request::Read { actor: 6, t: 0 }), Err(StepRefusal::SlotEmpty));
 //! # Ok::<(), StepRefusal>(())
 //! ```
 //!
@@ -121,8 +167,8 @@
 //!
 //! So of several pairs to one slot the last one that is not empty wins, and the reply slot of a send comes after
 //! all of them. The request is done all the same: `Ok(())` does not say that something came. A slot of an object
-//! that stays alive is emptied by a [revoke](Request::Revoke), and by nothing else; a
-//! [destroy](Request::Destroy) takes all slots with the object.
+//! that stays alive is emptied by a [revoke](Request::Revoke) and by a [reclaim](Request::Reclaim) of the number that
+//! it names, and by nothing else; a [destroy](Request::Destroy) takes all slots with the object.
 //!
 //! ```
 //! use captable::{Capability, Request, StepRefusal, Table, ACTIVE, ALIVE, RD, WR};
@@ -232,11 +278,11 @@ pub const IMPORT_BYTES: usize = 1092;
 /// The most entries that the list of a test may have. What a member holds with [`WK`] alone needs none.
 pub const MAX_ENTRIES: usize = 8;
 
-/// Status of a number that no object has yet.
+/// Status of a number that no object has.
 pub const UNBORN: u8 = 0;
 /// Status of an object in use.
 pub const ALIVE: u8 = 1;
-/// Status of an object that was destroyed.
+/// Status of an object that was destroyed, until its number is [reclaimed](Request::Reclaim).
 pub const DEAD: u8 = 2;
 
 /// Kind of an object that makes no requests.
@@ -244,7 +290,8 @@ pub const PASSIVE: u8 = 0;
 /// Kind of an object that makes requests and can be sent to.
 pub const ACTIVE: u8 = 1;
 
-/// The [maker](Record::maker) of an object that was not made in a run, and of an unborn record.
+/// The [maker](Record::maker) of an object that was not made in a run or whose maker's number was
+/// [reclaimed](Request::Reclaim), and of an unborn record.
 pub const NO_MAKER: u8 = 64;
 
 /// The right to read.
@@ -259,7 +306,7 @@ pub const TX: u8 = 8;
 
 /// The version of the calls that this crate was written for: 65,536 times the first number, 256 times the
 /// second, and the third.
-pub const VERSION: u32 = 0x00_08_00;
+pub const VERSION: u32 = 0x00_09_00;
 
 /// The version of the calls that were linked. Where it is not [`VERSION`], the archive is another than the
 /// crate was written for.

@@ -42,7 +42,7 @@ pub struct Record {
 }
 
 impl Record {
-    /// The record of a number that no object has yet.
+    /// The record of a number that no object has.
     pub const UNBORN: Record = Record {
         status: 0,
         kind: 0,
@@ -52,11 +52,12 @@ impl Record {
     };
 
     /// Who made the object: the actor of its allocate. None for an object that was not made in a run, as those are
-    /// that an import brings in or that an image of version 1 has, and for a number that no object has yet.
+    /// that an import brings in or that an image of version 1 has, for one whose maker's number was reclaimed, and for
+    /// a number that no object has.
     ///
-    /// An allocate writes it and nothing else changes it; a dead object keeps it. In a sound table the maker is born,
-    /// and may be dead by now. It is there for service to look at, and is no authority: no call asks for it but to
-    /// see whether the table is sound.
+    /// An allocate writes it, a reclaim of the maker's number takes it away, and nothing else changes it; a dead object
+    /// keeps it. In a sound table the maker is born, and may be dead by now. It is there for service to look at, and is
+    /// no authority: no call asks for it but to see whether the table is sound.
     #[must_use]
     pub const fn made_by(&self) -> Option<u8> {
         match self.maker {
@@ -66,7 +67,7 @@ impl Record {
     }
 }
 
-/// The record of a number that no object has yet.
+/// The record of a number that no object has.
 impl Default for Record {
     fn default() -> Record {
         Record::UNBORN

@@ -43,7 +43,8 @@ macro_rules! refusals {
 }
 
 refusals! {
-    /// Why a request was refused. The table is as it was.
+    /// Why a request was refused, in the order of the checks, but that [`TargetAlive`](StepRefusal::TargetAlive) is
+    /// checked between 4 and 6. The table is as it was.
     StepRefusal {
         /// The table is not sound.
         TableUnsound = 1, "the table is not sound";
@@ -53,7 +54,7 @@ refusals! {
         ActorUnfit = 3, "the actor is not alive and active";
         /// The slot that is used, `t`, is empty. One that is copied may be empty: nothing is copied then.
         SlotEmpty = 4, "the slot is empty";
-        /// The target is dead.
+        /// The target is dead. Not of a reclaim, which is for a dead one.
         TargetDead = 5, "the target is dead";
         /// The slot lacks the right that the request needs.
         RightAbsent = 6, "the right is absent";
@@ -63,6 +64,8 @@ refusals! {
         ActorItself = 8, "the target is the actor itself";
         /// An allocate's number or part is outside the actor's stock.
         NotInStock = 9, "the number or the part is outside the stock";
+        /// A reclaim's target is alive.
+        TargetAlive = 24, "the target is alive";
     }
 }
 
@@ -143,7 +146,8 @@ refusals! {
         /// The table is not sound.
         TableUnsound = 1, "the table is not sound";
         /// Some maker is not 64, and the older form has no place for it. An object that was made in a run keeps its
-        /// maker when it dies, so a table in which an allocate was done has no older form any more.
+        /// maker when it dies, until its own number is reclaimed or that of its maker: so long its table has no older
+        /// form.
         MakerRecorded = 23, "some maker is not 64, and the older form has no place for it";
         /// The buffer has fewer than 1,923 bytes.
         BufferShort = 16, "the buffer is too short";

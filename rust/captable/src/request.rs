@@ -1,4 +1,4 @@
-//! A request, its bytes (the code, then document 01's fields in their order), and its line for a reader.
+//! A request, its bytes (the code, then the documents' fields in their order), and its line for a reader.
 
 use core::fmt;
 
@@ -15,6 +15,7 @@ mod code {
     pub const SEND: u8 = 6;
     pub const ALLOCATE: u8 = 7;
     pub const DESTROY: u8 = 8;
+    pub const RECLAIM: u8 = 9;
 }
 
 /// The `reply` of a send that asks for no reply slot.
@@ -71,8 +72,8 @@ pub enum Request {
         /// The target's slot that the copy lands in.
         j: u8,
     },
-    /// The target's slot j is emptied. Needs wr. No other request empties a slot of an object that stays
-    /// alive. To empty a slot of its own, an object needs wr over itself.
+    /// The target's slot j is emptied. Needs wr. But for a reclaim no other request empties a slot of an object that
+    /// stays alive. To empty a slot of its own, an object needs wr over itself.
     Revoke {
         /// The object that asks.
         actor: u8,
@@ -111,9 +112,19 @@ pub enum Request {
         /// The actor's slots that are copied into it, in this order.
         list: PairList,
     },
-    /// The target becomes dead: it loses its word and slots and keeps its kind, and its stock joins the
-    /// actor's. Needs wr.
+    /// The target becomes dead: it loses its word and slots and keeps its kind and its maker, and its stock joins the
+    /// actor's. Its number stays in use until a reclaim. Needs wr.
     Destroy {
+        /// The object that asks.
+        actor: u8,
+        /// The actor's slot that is used; its target is the target.
+        t: u8,
+    },
+    /// The target, which is dead, becomes unborn, and its number joins the actor's stock. Every slot of any object that
+    /// names it is emptied, slot t too, and every maker that names it becomes [`NO_MAKER`](crate::NO_MAKER). Needs wr.
+    /// Who else holds a capability over it has no say, and the reply tells nothing of them: see
+    /// [dead numbers again](crate#dead-numbers-again).
+    Reclaim {
         /// The object that asks.
         actor: u8,
         /// The actor's slot that is used; its target is the target.
@@ -193,11 +204,12 @@ impl Request {
                 .and(&[i])
                 .and_list(&list),
             Request::Destroy { actor, t } => RequestBytes::of(&[code::DESTROY, actor, t]),
+            Request::Reclaim { actor, t } => RequestBytes::of(&[code::RECLAIM, actor, t]),
         }
     }
 
     /// The request that these bytes are, and none for any bytes that are no request: a code that is not 1
-    /// to 8, a byte too few or too many, a list above four pairs. The step refuses those by 2.
+    /// to 9, a byte too few or too many, a list above four pairs. The step refuses those by 2.
     ///
     /// Fields may be out of range, as in any request. The actor is what the bytes say: see
     /// [`Table::step_as`](crate::Table::step_as) for bytes that someone else wrote.
@@ -231,6 +243,7 @@ impl Request {
                 }
             }
             [code::DESTROY, actor, t] => Request::Destroy { actor, t },
+            [code::RECLAIM, actor, t] => Request::Reclaim { actor, t },
             _ => return None,
         })
     }
@@ -290,6 +303,7 @@ impl fmt::Display for Request {
                 write_copies(out, &list)
             }
             Request::Destroy { actor, t } => write!(out, "{actor} destroys through slot {t}"),
+            Request::Reclaim { actor, t } => write!(out, "{actor} reclaims through slot {t}"),
         }
     }
 }

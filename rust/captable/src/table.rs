@@ -159,7 +159,7 @@ impl Table {
     /// slot, and the request is done all the same: see [empty copies](crate#empty-copies).
     ///
     /// # Errors
-    /// 1 to 9, the first cause in number order.
+    /// 1 to 9, the first cause in number order; of a reclaim 24 too, after 4 and before 6.
     pub fn step(&mut self, request: &Request) -> Result<(), StepRefusal> {
         self.step_bytes(request.to_bytes().as_slice())
     }
@@ -190,7 +190,7 @@ impl Table {
     /// ```
     ///
     /// # Errors
-    /// 1 to 9, the first cause in number order.
+    /// 1 to 9, the first cause in number order; of a reclaim 24 too, after 4 and before 6.
     pub fn step_as(&mut self, actor: u8, mailbox: &[u8]) -> Result<(), StepRefusal> {
         let mut bytes = [0; REQUEST_BYTES];
         let Some(request) = bytes.get_mut(..mailbox.len()) else {
@@ -204,7 +204,7 @@ impl Table {
         self.step_bytes(request)
     }
 
-    /// One request from its bytes: the code, then document 01's fields. Any other bytes are refused by 2.
+    /// One request from its bytes: the code, then the documents' fields. Any other bytes are refused by 2.
     /// A refusal leaves the table as it was.
     ///
     /// The second byte names the actor, and whoever wrote it decided whose rights are used. For bytes that
@@ -212,7 +212,7 @@ impl Table {
     /// [`step_as`](Table::step_as).
     ///
     /// # Errors
-    /// 1 to 9, the first cause in number order.
+    /// 1 to 9, the first cause in number order; of a reclaim 24 too, after 4 and before 6.
     pub fn step_bytes(&mut self, request: &[u8]) -> Result<(), StepRefusal> {
         // SAFETY: the table is borrowed for the call alone, and the pointer and the length are of one slice.
         StepRefusal::check(unsafe {

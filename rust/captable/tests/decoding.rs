@@ -81,6 +81,11 @@ fn each() -> Vec<(Request, Vec<u8>, &'static str)> {
             vec![8, 5, 2],
             "5 destroys through slot 2",
         ),
+        (
+            Request::Reclaim { actor, t },
+            vec![9, 5, 2],
+            "5 reclaims through slot 2",
+        ),
     ]
 }
 
@@ -132,7 +137,8 @@ fn bytes_are_a_request_where_the_archive_says_so() {
     }
     // Codes change places, and with them a word may stand where a slot is: those are left out below.
     let in_range = |request: &Request| match *request {
-        Request::Read { t, .. } | Request::Destroy { t, .. } | Request::Write { t, .. } => t < 8,
+        Request::Read { t, .. } | Request::Write { t, .. } => t < 8,
+        Request::Destroy { t, .. } | Request::Reclaim { t, .. } => t < 8,
         Request::Fetch { t, i, j, .. } | Request::Store { t, i, j, .. } => t < 8 && i < 8 && j < 8,
         Request::Revoke { t, j, .. } => t < 8 && j < 8,
         Request::Send { t, list, reply, .. } => t < 8 && reply <= 8 && slots(&list),

@@ -1,6 +1,7 @@
 //! Document 02, 2.4, "An empty copy keeps the destination": "a copy that comes out empty, from an empty slot or
 //! from weakening, changes no slot. This holds in fetch, store, send and allocate; revoke alone empties a slot of
-//! an alive object." Each request is made in both forms of the step, and the whole table is compared.
+//! an alive object." Since 2.8 reclaim does so too. Each request is made in both forms of the step, and the whole table
+//! is compared.
 
 mod common;
 
@@ -310,7 +311,7 @@ fn a_new_object_has_what_filled_copies_bring_and_nothing_else() {
     });
 }
 
-/// "revoke alone empties a slot of an alive object": of another one and of the actor itself.
+/// "revoke alone empties a slot of an alive object", but for a reclaim: of another one and of the actor itself.
 #[test]
 fn a_revoke_empties_every_slot() {
     for (t, owner) in [(WRITES, 1), (ITSELF, 0)] {

@@ -124,7 +124,8 @@ fn what_was_made_makes() {
     assert_eq!(table.record(5).made_by(), None);
 }
 
-/// Nothing but an allocate that is done records a maker, and that changes no other record's.
+/// Nothing but an allocate that is done records a maker, and that changes no other record's. (What a reclaim takes away
+/// is in `reclaim.rs`.)
 #[test]
 fn no_other_request_changes_a_maker() {
     let before = k_with_makers();

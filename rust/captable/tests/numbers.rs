@@ -52,6 +52,7 @@ fn causes(named_17: &str) -> Vec<Named> {
     all.extend(IMPORT.map(|cause| named(cause.number(), cause)));
     let recorded = WriteOlderRefusal::MakerRecorded;
     all.push(named(recorded.number(), recorded));
+    all.push(named(TargetAlive.number(), TargetAlive));
     all
 }
 
@@ -194,4 +195,6 @@ fn the_header_gives_the_same_reasons_for_tests_and_from_18_on() {
     }
     let recorded = WriteOlderRefusal::MakerRecorded;
     same(recorded.number(), &recorded, &recorded);
+    let alive = StepRefusal::TargetAlive;
+    same(alive.number(), &alive, &alive);
 }

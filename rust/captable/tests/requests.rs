@@ -43,6 +43,7 @@ fn the_bytes_are_the_fields_in_order() {
         [7, 9, 40, 1, 1, 2, 3, 4, 5, 6, 7, 8, 5, 1, 3, 4]
     );
     assert_eq!(bytes(Request::Destroy { actor, t }), [8, 9, 2]);
+    assert_eq!(bytes(Request::Reclaim { actor, t }), [9, 9, 2]);
 }
 
 #[test]
@@ -69,7 +70,10 @@ fn bytes_that_are_no_request_are_refused() {
     let mut long = right.to_vec();
     long.push(0);
     assert_eq!(table.step_bytes(&long), Err(StepRefusal::FieldInvalid));
-    assert_eq!(table.step_bytes(&[9, 4, 0]), Err(StepRefusal::FieldInvalid));
+    for code in (10..=255).chain([0]) {
+        let refused = table.step_bytes(&[code, 4, 0]);
+        assert_eq!(refused, Err(StepRefusal::FieldInvalid), "code {code}");
+    }
     assert_eq!(table, k());
     assert_eq!(table.step_bytes(&right), Ok(()));
 }
@@ -113,6 +117,7 @@ fn each_refusal_has_its_number_and_leaves_the_table() {
         (send, 7),
         (Request::Destroy { actor: 5, t: 2 }, 8),
         (allocate, 9),
+        (Request::Reclaim { actor: 5, t: 3 }, 24),
     ] {
         let refusal = table.step(&request).expect_err("each is refused");
         assert_eq!(refusal.number(), number, "{request:?}");

@@ -63,6 +63,12 @@ enum-known-request-8 c = search needs
 destroy-requires : tie.Need-destroy-requires
 destroy-requires c κs = sym (c .before .before .before .before .is-sound .ensures) ∙ not-false _ (c .before .before .before .if1 .left)
 
+enum-known-request-9 : tie.Need-enum-known-request-9
+enum-known-request-9 c = search needs
+
+reclaim-requires : tie.Need-reclaim-requires
+reclaim-requires c κs = sym (c .before .before .before .before .is-sound .ensures) ∙ not-false _ (c .before .before .before .if1 .left)
+
 enum-told : tie.Need-enum-told
 enum-told c = search needs
 
@@ -100,7 +106,11 @@ returns-9 c = step-told (c .before .before .before .before .before .before .args
 
 returns-10 : tie.Need-returns-10
 unfolding askOf
-returns-10 c = let t = c .before .before .before .before .args .t in
+returns-10 c = step-told (c .before .before .before .before .before .before .args .t) (c .before .before .before .before .before .before .args .list) (c .before .before .request9 .given .1) (c .reclaim .ensures)
+
+returns-11 : tie.Need-returns-11
+unfolding askOf
+returns-11 c = let t = c .before .before .before .before .args .t in
     step-told t (c .before .before .before .before .args .list) (c .enum-told .given .1) (rows-invalid t (sym (c .before .before .before .is-sound .ensures) ∙ not-false _ (c .before .before .if1 .left)) unknown-fields refl)
 
 pub step-spec : {M : Type 1} → statement M
@@ -125,6 +135,8 @@ step-spec =
     allocate-requires
     enum-known-request-8
     destroy-requires
+    enum-known-request-9
+    reclaim-requires
     enum-told
     returns-2
     returns-3
@@ -134,4 +146,5 @@ step-spec =
     returns-7
     returns-8
     returns-9
-    returns-10)
+    returns-10
+    returns-11)

@@ -46,13 +46,16 @@ is-born-requires c κs = search needs
 need-met-requires : tie.Need-need-met-requires
 need-met-requires c κs = search needs
 
+wrong-status-requires : tie.Need-wrong-status-requires
+wrong-status-requires c κs = search needs
+
 first-of-requires : tie.Need-first-of-requires
 first-of-requires c κs = search needs
 
 returns-2 : tie.Need-returns-2
-returns-2 c = let s = c .before .before .before .before .before .before .before .before .before .before .before .before .before in
+returns-2 c = let s = c .before .before .before .before .before .before .before .before .before .before .before .before .before .before in
     let a = s .args in
-    check-seen (a .t1) (a .actor) (a .s) (a .bad) (a .wanted) (a .need) _ _ _ (value-sized (a .t1) _ (s .good .0)) (s .pre) (c .before .before .before .before .before .before .before .before .before .before .before .before .if1 .left) (c .before .need-met .ensures) (c .before .before .before .is-born .ensures) (c .first-of .ensures)
+    check-seen (a .t1) (a .actor) (a .s) (a .bad) (a .wanted) (a .need) _ _ _ _ (value-sized (a .t1) _ (s .good .0)) (s .pre) (c .before .before .before .before .before .before .before .before .before .before .before .before .before .if1 .left) (c .before .before .need-met .ensures) (c .before .before .before .before .is-born .ensures) (c .before .wrong-status .ensures) (c .first-of .ensures)
 
 pub check-slot-spec : {M : Type 1} → statement M
 check-slot-spec =
@@ -70,5 +73,6 @@ check-slot-spec =
     element-copy-out-b
     is-born-requires
     need-met-requires
+    wrong-status-requires
     first-of-requires
     returns-2)

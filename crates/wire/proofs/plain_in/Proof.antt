@@ -1,7 +1,7 @@
 -- `plain_in` meets its contract, by the code: each field is the byte at its place. Assumes nothing.
 use mathlib.Core.Path.{_∙_, ap}
 use Rattle.requests.specs.Asks.{requestOf}
-use Rattle.wire.proofs.Fields.{read-made, fetch-made, store-made, revoke-made, destroy-made, unknown-made}
+use Rattle.wire.proofs.Fields.{read-made, fetch-made, store-made, revoke-made, destroy-made, reclaim-made, unknown-made}
 use borrow.Author.Needs.{needs}
 use Rattle.wire.proofs.plain_in.Statement.{statement}
 use Rattle.wire.proofs.plain_in.Tie as tie
@@ -34,9 +34,12 @@ returns-5 : tie.Need-returns-5
 returns-5 c = ap requestOf (destroy-made (c .before .before .before .before .before .before .args .bytes .now) _ _ (c .before .before .before .before .actor-in .ensures) (c .before .before .before .byte-at .ensures) (c .before .before .before .before .before .before .pre .0 ∙ c .match .keys5))
 
 returns-6 : tie.Need-returns-6
-returns-6 c = let p = c .before .before .before .before .before .before .pre in
+returns-6 c = ap requestOf (reclaim-made (c .before .before .before .before .before .before .args .bytes .now) _ _ (c .before .before .before .before .actor-in .ensures) (c .before .before .before .byte-at .ensures) (c .before .before .before .before .before .before .pre .0 ∙ c .match .keys6))
+
+returns-7 : tie.Need-returns-7
+returns-7 c = let p = c .before .before .before .before .before .before .pre in
     let r = c .match .rest in
-    ap requestOf (unknown-made (c .before .before .before .before .before .before .args .bytes .now) _ _ (c .before .before .before .before .actor-in .ensures) (p .0) (r .0 .0 .0 .0 .1) (p .1) (r .0 .0 .0 .1) (r .0 .0 .1) (r .0 .1) (p .2) (p .3) (r .1))
+    ap requestOf (unknown-made (c .before .before .before .before .before .before .args .bytes .now) _ _ (c .before .before .before .before .actor-in .ensures) (p .0) (r .0 .0 .0 .0 .0 .1) (p .1) (r .0 .0 .0 .0 .1) (r .0 .0 .0 .1) (r .0 .0 .1) (p .2) (p .3) (r .0 .1) (r .1))
 
 pub plain-in-spec : {M : Type 1} → statement M
 plain-in-spec =
@@ -51,4 +54,5 @@ plain-in-spec =
     returns-3
     returns-4
     returns-5
-    returns-6)
+    returns-6
+    returns-7)

@@ -51,7 +51,11 @@ unfolding sizeOf
 returns-8 c = size-row _ 8 _ _ (c .match .keys8) refl
 
 returns-9 : tie.Need-returns-9
-returns-9 c = let r = c .match .rest in size-none _ _ (r .0 .0 .0 .0 .0 .0 .0 .1) (r .0 .0 .0 .0 .0 .0 .1) (r .0 .0 .0 .0 .0 .1) (r .0 .0 .0 .0 .1) (r .0 .0 .0 .1) (r .0 .0 .1) (r .0 .1) (r .1)
+unfolding sizeOf
+returns-9 c = size-row _ 9 _ _ (c .match .keys9) refl
+
+returns-10 : tie.Need-returns-10
+returns-10 c = let r = c .match .rest in size-none _ _ (r .0 .0 .0 .0 .0 .0 .0 .0 .1) (r .0 .0 .0 .0 .0 .0 .0 .1) (r .0 .0 .0 .0 .0 .0 .1) (r .0 .0 .0 .0 .0 .1) (r .0 .0 .0 .0 .1) (r .0 .0 .0 .1) (r .0 .0 .1) (r .0 .1) (r .1)
 
 pub size-of-spec : {M : Type 1} → statement M
 size-of-spec =
@@ -69,4 +73,5 @@ size-of-spec =
     returns-6
     returns-7
     returns-8
-    returns-9)
+    returns-9
+    returns-10)

@@ -62,6 +62,12 @@ enum-known-request-9 c = search needs
 plain-bytes-requires-6 : tie.Need-plain-bytes-requires-6
 plain-bytes-requires-6 c κs = search needs
 
+enum-known-request-10 : tie.Need-enum-known-request-10
+enum-known-request-10 c = search needs
+
+plain-bytes-requires-7 : tie.Need-plain-bytes-requires-7
+plain-bytes-requires-7 c κs = search needs
+
 returns : tie.Need-returns
 unfolding askOf writtenOf heldBytes requestBytes fieldBytes padded tabulate
 returns c = written-told (c .before .before .before .before .args .list) (c .before .before .request .given .1) (c .plain-bytes .ensures)
@@ -98,6 +104,10 @@ returns-9 : tie.Need-returns-9
 unfolding askOf writtenOf heldBytes requestBytes fieldBytes padded tabulate
 returns-9 c = written-told (c .before .before .before .before .args .list) (c .before .before .request9 .given .1) (c .plain-bytes6 .ensures)
 
+returns-10 : tie.Need-returns-10
+unfolding askOf writtenOf heldBytes requestBytes fieldBytes padded tabulate
+returns-10 c = written-told (c .before .before .before .before .args .list) (c .before .before .request10 .given .1) (c .plain-bytes7 .ensures)
+
 pub request-bytes-spec : {M : Type 1} → statement M
 request-bytes-spec =
     tie.close
@@ -120,6 +130,8 @@ request-bytes-spec =
     plain-bytes-requires-5
     enum-known-request-9
     plain-bytes-requires-6
+    enum-known-request-10
+    plain-bytes-requires-7
     returns
     returns-2
     returns-3
@@ -128,4 +140,5 @@ request-bytes-spec =
     returns-6
     returns-7
     returns-8
-    returns-9)
+    returns-9
+    returns-10)

@@ -11,7 +11,7 @@ use std::process::ExitCode;
 use yavrinks_tools::progress::Progress;
 
 use crate::samples::{imports, keeping, made_table, material_test};
-use crate::samples::{places, requests, rows, Place};
+use crate::samples::{places, reclaims, requests, rows, NamedStep, Place};
 use measure::{Figures, ROUNDS};
 
 /// The most that a lent step should take, in scans.
@@ -20,10 +20,12 @@ const GOAL: f64 = 2.0;
 /// How the figures are to be read.
 const NOTE: &str = "\
 Nanoseconds a call are the least of the rounds. Below 1.00 the proved call is faster. Middle, low and
-high are of the ratios of the single rounds. By value both sides copy the table. Lent, an allocate and a
-destroy are undone after each call, on both sides alike. The time of the scan in C stands under proved.
-Requests whose copies come out empty, and a fetch that is weakened to what is there, leave filled slots as
-they were.
+high are of the ratios of the single rounds. By value both sides copy the table. Lent, an allocate, a
+destroy and a reclaim are undone after each call, on both sides alike. The time of the scan in C stands under
+proved. Requests whose copies come out empty, and a fetch that is weakened to what is there, leave filled
+slots as they were. A reclaim is on table K, where one other object holds the number, and where all 504 slots
+of 63 alive objects are filled: either all of them name the number, and it made all these objects, or the
+used slot alone does.
 A chain is that to the object farthest off. With 64 wk unlisted, eight members hold wk alone in all their
 slots and the list is empty. With 64 objects in a row the test takes 63 rounds. A full import has 64 entities
 of eight capabilities, a small one three. An image is of version 2, an older image of version 1; with every
@@ -41,7 +43,7 @@ fn calls(places: &[Place]) -> usize {
     let against_test = places.len() + rows().len();
     let wholes = places.len() * wholes::ALL.len() + wholes::WITH_MAKERS.len();
     let wholes = wholes + 1 + on_rows + imports().len();
-    3 * (each + keeping().len()) + wholes + against_test
+    3 * (each + named_steps().len()) + wholes + against_test
 }
 
 /// Times everything and prints a line a call.
@@ -71,7 +73,7 @@ pub fn command() -> ExitCode {
         let name = format!("{name}, every object made");
         timing.line(&name, || figures(&made));
     }
-    keeping_steps(&mut timing);
+    time_named_steps(&mut timing);
     timing.line("confinement test, 64 wk unlisted", || {
         wholes::test_of(&material_test())
     });
@@ -87,9 +89,14 @@ pub fn command() -> ExitCode {
     ExitCode::SUCCESS
 }
 
-/// The requests that leave every slot, in both forms of the step.
-fn keeping_steps(timing: &mut Timing) {
-    for case in keeping() {
+/// The requests that leave every slot, and the reclaims.
+fn named_steps() -> Vec<NamedStep> {
+    keeping().into_iter().chain(reclaims()).collect()
+}
+
+/// These in both forms of the step.
+fn time_named_steps(timing: &mut Timing) {
+    for case in named_steps() {
         timing.line(&format!("{} by value", case.name), || {
             steps::by_value(&case.table, &case.request)
         });
@@ -115,7 +122,7 @@ fn archive_alone(places: &[Place], timing: &mut Timing) {
             });
         }
     }
-    for case in keeping() {
+    for case in named_steps() {
         timing.line(&format!("{} lent", case.name), || {
             steps::lent_against_scan(&case.table, &case.request)
         });
@@ -150,14 +157,14 @@ impl Timing {
 
 fn head(call: &str, first: &str, second: &str) {
     println!(
-        "{call:40}{first:>11}{second:>11}{:>8}{:>8}{:>8}{:>8}",
+        "{call:44}{first:>11}{second:>11}{:>8}{:>8}{:>8}{:>8}",
         "ratio", "middle", "low", "high"
     );
 }
 
 fn line(name: &str, figures: &Figures) {
     println!(
-        "{name:40}{:>11.1}{:>11.1}{:>8.2}{:>8.2}{:>8.2}{:>8.2}",
+        "{name:44}{:>11.1}{:>11.1}{:>8.2}{:>8.2}{:>8.2}{:>8.2}",
         figures.first,
         figures.second,
         figures.first / figures.second,

@@ -7,18 +7,19 @@ use yavrinks_tools::generate::{actor_mut, bounded_fields, turn_to_empty};
 use yavrinks_tools::rng::Rng;
 
 /// A code and a reply to aim at; some several times, so that they are drawn more often. Destroys that
-/// are done are rare: a table should not soon be dead.
+/// are done are rare, as often as reclaims: a table should not soon be dead.
 #[rustfmt::skip]
-const AIMS: [(u8, u8); 60] = [
+const AIMS: [(u8, u8); 70] = [
     (1, 0), (1, 0), (1, 0), (2, 0), (2, 0), (2, 0), (3, 0), (3, 0), (3, 0), (3, 0),
     (3, 0), (4, 0), (4, 0), (4, 0), (4, 0), (4, 0), (5, 0), (5, 0), (6, 0), (6, 0),
     (6, 0), (6, 0), (6, 0), (6, 0), (6, 0), (7, 0), (7, 0), (7, 0), (7, 0), (7, 0),
     (8, 0), (1, 4), (2, 4), (3, 4), (4, 4), (5, 4), (6, 4), (8, 4), (1, 5), (2, 5),
     (3, 5), (4, 5), (5, 5), (6, 5), (8, 5), (1, 6), (2, 6), (3, 6), (4, 6), (5, 6),
     (6, 6), (8, 6), (6, 7), (6, 7), (8, 8), (8, 8), (7, 9), (7, 9), (7, 9), (7, 9),
+    (8, 0), (8, 0), (9, 0), (9, 0), (9, 0), (9, 4), (9, 6), (9, 6), (9, 24), (9, 24),
 ];
 
-/// A request aimed at one of the replies 0 and 2 to 9.
+/// A request aimed at one of the replies 0, 2 to 9 and 24.
 pub fn aimed(rng: &mut Rng, table: &Table) -> Request {
     let (code, aim) = AIMS[rng.between(0, AIMS.len() as u64 - 1) as usize];
     let mut request = match Code::of(code).expect("every aim has a request") {
@@ -33,7 +34,7 @@ pub fn aimed(rng: &mut Rng, table: &Table) -> Request {
     request
 }
 
-/// The requests that copy slots, and the one that empties them.
+/// The requests that copy slots, and revoke, which empties one.
 const COPYING: [u8; 9] = [3, 3, 3, 4, 4, 6, 6, 7, 5];
 
 /// A request aimed at 0 whose copies come out empty, or some of them, where the table has empty slots; or a revoke.
@@ -127,8 +128,13 @@ fn leads_to(table: &Table, code: Code, aim: u8, actor: u8, t: u8) -> bool {
     let Some(needed) = code.needs() else {
         return false;
     };
-    if !target.is_alive() || !used.has_any(needed) {
-        return aim == if target.is_alive() { 6 } else { 5 };
+    match (code, target.is_alive()) {
+        (Code::Reclaim, true) => return aim == 24,
+        (Code::Reclaim, false) | (_, true) => {}
+        (_, false) => return aim == 5,
+    }
+    if !used.has_any(needed) {
+        return aim == 6;
     }
     match code {
         Code::Send if !target.is_active() => aim == 7,

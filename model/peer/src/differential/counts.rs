@@ -1,17 +1,18 @@
-//! How often each call gave each number, how often empty copies and makers were met, how many rounds tests took, and
-//! the tables that are printed of it.
+//! How often each call gave each number, how often empty copies, makers and reclaims were met, how many rounds tests
+//! took, and the tables that are printed of it.
 
 use std::fmt;
 
 use super::makers::{MakerCounts, MakerKind};
+use super::reclaims::{Again, ReclaimCounts, Tally};
 use super::rounds::RoundCounts;
 use yavrinks_model::image::{Version, VERSION_AT};
 use yavrinks_model::step::{Code, Request};
 use yavrinks_model::table::Table;
 use yavrinks_tools::empty_kinds::{EmptyCounts, EmptyKind};
 
-/// The numbers that calls give are 0 to 23.
-const NUMBERS: usize = 24;
+/// The numbers that calls give are 0 to 24.
+const NUMBERS: usize = 25;
 
 /// The lines of the summary, in order.
 #[derive(Clone, Copy, Debug, PartialEq, Eq)]
@@ -32,12 +33,12 @@ pub enum Line {
 }
 
 /// How many lines there are.
-const LINES: usize = 21;
+const LINES: usize = 22;
 
 /// The names of the lines, in order of their place.
 fn names() -> Vec<String> {
     let others = [
-        "codes not 1 to 8",
+        "codes not 1 to 9",
         "bytes of wrong length",
         "soundness",
         "potential access",
@@ -56,23 +57,23 @@ fn names() -> Vec<String> {
 }
 
 /// The lines of requests come before this one.
-const FIRST_OTHER: usize = 10;
+const FIRST_OTHER: usize = 11;
 
 impl Line {
     fn place(self) -> usize {
         match self {
             Line::Code(code) => usize::from(code.number()) - 1,
-            Line::OtherCode => 8,
-            Line::NoRequest => 9,
+            Line::OtherCode => 9,
+            Line::NoRequest => 10,
             Line::Sound => FIRST_OTHER,
-            Line::Access => 11,
-            Line::Test => 12,
-            Line::Chain => 13,
-            Line::Write(version) => 13 + usize::from(version.number()),
-            Line::Read(version) => 15 + usize::from(version.number()),
-            Line::ReadOther => 18,
-            Line::Import => 19,
-            Line::Confine => 20,
+            Line::Access => 12,
+            Line::Test => 13,
+            Line::Chain => 14,
+            Line::Write(version) => 14 + usize::from(version.number()),
+            Line::Read(version) => 16 + usize::from(version.number()),
+            Line::ReadOther => 19,
+            Line::Import => 20,
+            Line::Confine => 21,
         }
     }
 
@@ -87,18 +88,19 @@ impl Line {
 const TESTS: [Line; 3] = [Line::Test, Line::Chain, Line::Confine];
 
 /// How often each line had each number: in all, and of tests those where a member holds wk alone that the
-/// list lacks. How often each kind of empty copies and of makers came, and each number of rounds.
+/// list lacks. How often each kind of empty copies, of makers and of reclaims came, and each number of rounds.
 #[derive(Clone, Debug, Default, PartialEq, Eq)]
 pub struct Counts {
     all: [[u64; NUMBERS]; LINES],
     unlisted: [[u64; NUMBERS]; LINES],
     empty: EmptyCounts,
     makers: MakerCounts,
+    reclaims: ReclaimCounts,
     rounds: RoundCounts,
 }
 
 impl Counts {
-    /// Counts one answer. No call gives a number above 23.
+    /// Counts one answer. No call gives a number above 24.
     pub fn add(&mut self, line: Line, number: u8) {
         self.all[line.place()][usize::from(number)] += 1;
     }
@@ -108,10 +110,22 @@ impl Counts {
         self.unlisted[line.place()][usize::from(number)] += 1;
     }
 
-    /// Counts the empty copies of a request that was done on the table, and what it has to do with makers.
+    /// Counts the empty copies of a request that was done on the table, what it has to do with makers, and what a
+    /// reclaim met.
     pub fn add_done(&mut self, before: &Table, request: &Request) {
         self.empty.count(before, request);
         self.makers.count_request(before, request);
+        self.reclaims.count(before, request);
+    }
+
+    /// Counts a number that was made again after a reclaim.
+    pub fn add_again(&mut self, again: Again) {
+        self.reclaims.count_again(again);
+    }
+
+    /// How often a tally of reclaims came.
+    pub fn of_reclaim(&self, tally: Tally) -> u64 {
+        self.reclaims.of(tally)
     }
 
     /// Counts the makers in a table.
@@ -170,6 +184,7 @@ impl fmt::Display for Counts {
         write_part(out, "of these with unlisted wk", &names, &unlisted)?;
         writeln!(out)?;
         writeln!(out, "{}", self.makers)?;
+        writeln!(out, "{}", self.reclaims)?;
         write!(out, "{}", self.rounds)
     }
 }

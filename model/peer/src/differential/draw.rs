@@ -65,14 +65,14 @@ fn random_fields(rng: &mut Rng) -> Request {
     request
 }
 
-/// A code that is not 1 to 8, with bytes after it in any number.
+/// A code that is not 1 to 9, with bytes after it in any number.
 fn unknown_code(rng: &mut Rng) -> Ask {
     let length = rng.between(1, 24) as usize;
     let mut bytes = any_bytes(rng, length);
     bytes[0] = if rng.percent(20) {
         0
     } else {
-        rng.byte_above(8)
+        rng.byte_above(9)
     };
     no_request(bytes)
 }

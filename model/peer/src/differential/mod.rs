@@ -8,6 +8,7 @@ mod draw;
 mod facts;
 mod inputs;
 mod makers;
+mod reclaims;
 mod rounds;
 mod steps;
 mod sweep;
@@ -18,6 +19,7 @@ mod wholes;
 pub use counts::{Counts, Line};
 pub use facts::{Compared, Difference};
 pub use makers::MakerKind;
+pub use reclaims::{Again, Tally};
 pub use steps::{compare_step, Ask, Twin};
 pub use wholes::{
     compare_access, compare_chain, compare_confine, compare_import, compare_read, compare_sound,
@@ -28,6 +30,7 @@ use std::process::ExitCode;
 
 use yavrinks_model::step::{Code, Request};
 use yavrinks_tools::empty_kinds::EmptyKind;
+use yavrinks_tools::generate::ReclaimKind;
 use yavrinks_tools::progress::Progress;
 use yavrinks_tools::rng::Rng;
 
@@ -49,6 +52,8 @@ unlisted wk: a member holds wk alone over a non-member, and the list has no wk f
 tests were accepted and such chains shown, under 12 another capability was refused beside it
 makers: of requests that were done; of the tables whose soundness was compared, each born record of a
 sound one, and each record that offends where nothing but makers does
+reclaims: of those that were done; each is counted once in every line of its kind, and in those of slots and
+makers as often as it emptied or reset one. Made again are numbers that were reclaimed in the same table
 rounds: of the confinement tests that were accepted, how many rounds added an object; most is the most of any";
 
 /// A difference, and the place in the run where it was met.
@@ -73,9 +78,11 @@ pub fn command(seed: u64, requests: u64, inputs: u64) -> ExitCode {
                 "{inputs} imports; {inputs} inputs of confine; after each {BETWEEN_SWEEPS} requests the other calls,"
             );
             println!(
-                "and a request of each of the {} kinds of empty copies, which is counted too",
-                EmptyKind::ALL.len()
+                "a request of each of the {} kinds of empty copies and a reclaim of each of {} kinds and for each reply,",
+                EmptyKind::ALL.len(),
+                ReclaimKind::ALL.len()
             );
+            println!("with an allocate of the number after those that are done; all of them are counted too");
             println!("{NOTE}\n\n{counts}\nno difference");
             ExitCode::SUCCESS
         }
@@ -119,6 +126,9 @@ fn one_step(calls: &impl Calls, twin: &mut Twin, ask: &Ask, counts: &mut Counts)
     counts.add(line_of(ask), number);
     if let (0, Some(request)) = (number, &ask.request) {
         counts.add_done(&before, request);
+        if let Some(again) = twin.reclaimed.note(&before, request) {
+            counts.add_again(again);
+        }
     }
     Ok(())
 }
@@ -128,7 +138,7 @@ fn line_of(ask: &Ask) -> Line {
     let asked = ask.request.as_ref().map(Request::code);
     match (asked.and_then(Code::of), ask.bytes.first()) {
         (Some(code), _) => Line::Code(code),
-        (_, Some(1..=8) | None) => Line::NoRequest,
+        (_, Some(1..=9) | None) => Line::NoRequest,
         _ => Line::OtherCode,
     }
 }

@@ -5,6 +5,7 @@ use yavrinks_model::step::{step_in_place, Request};
 use yavrinks_model::table::Table;
 
 use super::facts::{same, Compared, Facts};
+use super::reclaims::Reclaimed;
 use crate::archive::Calls;
 use crate::convert::to_raw;
 
@@ -24,12 +25,18 @@ pub struct Ask {
 pub struct Twin {
     pub model: Table,
     pub lent: Box<raw::Table>,
+    /// The numbers that were reclaimed in it, for the counts.
+    pub reclaimed: Reclaimed,
 }
 
 impl Twin {
     pub fn new(model: Table) -> Twin {
         let lent = Box::new(to_raw(&model));
-        Twin { model, lent }
+        Twin {
+            model,
+            lent,
+            reclaimed: Reclaimed::default(),
+        }
     }
 
     /// Changes the table on both sides.

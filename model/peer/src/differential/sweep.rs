@@ -1,16 +1,18 @@
 //! All calls but the step, on the table as it is and on tables, images and imports that are aimed at each number; and
-//! steps of each kind of empty copies and by and on objects with makers.
+//! steps of each kind of empty copies, by and on objects with makers, and reclaims of each kind.
 
 use yavrinks_model::confinement::Entry;
 use yavrinks_model::image::{encode, Version, VERSION_AT};
-use yavrinks_model::table::Table;
+use yavrinks_model::step::{Code, Fields, Request};
+use yavrinks_model::table::{Table, ACTIVE, ALL_RIGHTS, WR};
 use yavrinks_tools::empty_kinds::EmptyKind;
 use yavrinks_tools::generate::{allocate_by_made, destroy_of_made, without_makers, write_case};
 use yavrinks_tools::generate::{born_non_members, confinement_case, damaged_table};
+use yavrinks_tools::generate::{can_meet, reclaim_case, reclaim_through, step_case};
 use yavrinks_tools::generate::{empty_copy_case, image_of, import_case, layered_test, shown_case};
-use yavrinks_tools::generate::{ConfinementCase, Damage, StepCase};
+use yavrinks_tools::generate::{ConfinementCase, Damage, ReclaimKind, StepCase};
 use yavrinks_tools::generate::{CONFINEMENT_NUMBERS, IMAGE_NUMBERS, IMPORT_NUMBERS};
-use yavrinks_tools::generate::{SHOWN_NUMBERS, WRITE_NUMBERS};
+use yavrinks_tools::generate::{SHOWN_NUMBERS, STEP_REPLIES, WRITE_NUMBERS};
 use yavrinks_tools::rng::Rng;
 
 use super::counts::{Counts, Line};
@@ -46,6 +48,7 @@ pub fn sweep(
     // Generators of their own, since nothing else hangs on what follows.
     let bits = rng.bits();
     compare_makers(calls, &mut Rng::new(bits.rotate_left(16)), counts)?;
+    compare_reclaims(calls, &mut Rng::new(bits.rotate_left(40)), counts)?;
     compare_writes(calls, &mut Rng::new(bits.rotate_left(8)), table, counts)?;
     compare_reads(calls, &mut Rng::new(bits.rotate_left(24)), table, counts)?;
     compare_imports(calls, &mut Rng::new(bits), counts)?;
@@ -136,6 +139,46 @@ fn compare_makers(calls: &impl Calls, rng: &mut Rng, counts: &mut Counts) -> Com
         one_case(calls, case, counts)?;
     }
     Ok(())
+}
+
+/// A reclaim of each kind that is done, with an allocate of the number after it; one for each reply; and, of those that
+/// are alive and of those that are dead, one through a slot of any rights and of any rights without wr.
+fn compare_reclaims(calls: &impl Calls, rng: &mut Rng, counts: &mut Counts) -> Compared<()> {
+    for kind in ReclaimKind::ALL {
+        let case = reclaim_case(rng, kind);
+        let again = made_again(rng, &case);
+        let mut twin = Twin::new(case.table);
+        for request in [Some(case.request), again].into_iter().flatten() {
+            one_step(calls, &mut twin, &ask(request), counts)?;
+        }
+    }
+    let code = Code::Reclaim.number();
+    for reply in STEP_REPLIES.into_iter().filter(|&aim| can_meet(code, aim)) {
+        one_case(calls, step_case(rng, code, reply), counts)?;
+    }
+    let any = rng.byte(1, ALL_RIGHTS);
+    one_case(calls, reclaim_through(rng, 24, any), counts)?;
+    let without: Vec<u8> = (1..=ALL_RIGHTS).filter(|rights| rights & WR == 0).collect();
+    for aim in [24, 6] {
+        let rights = rng.pick(&without).unwrap_or(1);
+        one_case(calls, reclaim_through(rng, aim, rights), counts)?;
+    }
+    Ok(())
+}
+
+/// The allocate of the number by the object that reclaims it.
+fn made_again(rng: &mut Rng, case: &StepCase) -> Option<Request> {
+    let Request::Reclaim { actor, t } = case.request else {
+        return None;
+    };
+    let used = case.table.record(actor).slots[usize::from(t)];
+    Some(Code::Allocate.request(Fields {
+        actor,
+        n: used.target,
+        kind: rng.byte(0, ACTIVE),
+        i: rng.byte(0, 7),
+        ..Fields::default()
+    }))
 }
 
 /// A step on a table of its own.

@@ -3,12 +3,14 @@
 mod done;
 mod empty;
 mod makers;
+mod reclaim;
 mod rights;
 mod rounds;
 mod weak;
 
 use captable::raw;
 use yavrinks_model::image::Version;
+use yavrinks_model::step::Code;
 use yavrinks_peer::archive::{Archive, Calls};
 use yavrinks_peer::differential::{compare_inputs, compare_requests, Counts, Difference, Line};
 use yavrinks_peer::samples::mended;
@@ -63,7 +65,8 @@ fn every_number_of_every_call_is_met() {
     let mut counts = Counts::default();
     compare_requests(&Archive, 1, REQUESTS, &mut counts).expect("no difference");
     compare_inputs(&Archive, 1, INPUTS, &mut counts).expect("no difference");
-    let lines: [(Line, &[u8], u64); 11] = [
+    let lines: [(Line, &[u8], u64); 12] = [
+        (Line::Code(Code::Reclaim), &[0, 1, 2, 3, 4, 6, 24], 60),
         (Line::Sound, &[0, 1], 30),
         (Line::Access, &[0], 30),
         (Line::Test, &CONFINEMENT_NUMBERS, 3),

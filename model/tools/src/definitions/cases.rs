@@ -11,7 +11,7 @@ use yavrinks_model::confinement::{confinement_test, passes, Entry, Tested, MAX_E
 use yavrinks_model::image::{read, write, Version};
 use yavrinks_model::refusal::Refusal;
 use yavrinks_model::rounds::rounds;
-use yavrinks_model::runs::{clean_at_start, clean_part, run, CleanPart};
+use yavrinks_model::runs::{clean_after, clean_at_start, clean_part, run, CleanPart};
 use yavrinks_model::set;
 use yavrinks_model::step::{landed, step, weaken, Code, Request};
 use yavrinks_model::table::{Capability, Table};
@@ -23,12 +23,20 @@ use yavrinks_model::wire;
 pub enum Part {
     AtStart,
     AtEnd,
+    /// Those at the end whose makers are compared.
+    Compared,
     Requests,
     Replies,
 }
 
 impl Part {
-    pub const ALL: [Part; 4] = [Part::AtStart, Part::AtEnd, Part::Requests, Part::Replies];
+    pub const ALL: [Part; 5] = [
+        Part::AtStart,
+        Part::AtEnd,
+        Part::Compared,
+        Part::Requests,
+        Part::Replies,
+    ];
 }
 
 /// What is asked.
@@ -39,6 +47,12 @@ pub enum Question {
         start: ConfinementCase,
         requests: Vec<Request>,
         parts: Vec<Part>,
+    },
+    /// The clean objects after one request, where any numbers are clean before it.
+    CleanAfter {
+        table: Table,
+        clean: u64,
+        request: Request,
     },
     Step {
         table: Table,
@@ -119,6 +133,8 @@ pub enum Question {
 pub enum Answer {
     /// The clean objects at the start, and what they have of the run.
     Clean(u64, CleanPart),
+    /// The clean objects.
+    Set(u64),
     Table(u8, Table),
     /// What the slot holds after each copy, or what each capability is weakened to.
     Slots(Vec<Capability>),
@@ -162,6 +178,7 @@ impl Case {
 }
 
 const CLEAN: &str = "clean along a run";
+const CLEAN_AFTER: &str = "clean after one";
 const UNKNOWN: &str = "unknown code";
 const LANDING: &str = "where a copy lands";
 const WORTH: &str = "worth of rights";
@@ -185,7 +202,7 @@ const LIST_BYTES: &str = "list as bytes";
 
 /// Everything that can be asked, in the order of the summary.
 pub fn subjects() -> Vec<String> {
-    let mut subjects = vec![CLEAN.to_string()];
+    let mut subjects = vec![CLEAN.to_string(), CLEAN_AFTER.to_string()];
     subjects.extend(Code::ALL.map(Code::label));
     let steps = [UNKNOWN, LANDING, WORTH, NEEDS, WEAKENING, RUN];
     let wholes = [TEST, THERE, PASSING, CHAIN, LEAST_CHAIN, ACCESS, SOUND];
@@ -203,6 +220,14 @@ impl Question {
             Question::Clean {
                 start, requests, ..
             } => clean_answer(start, requests),
+            Question::CleanAfter {
+                table,
+                clean,
+                request,
+            } => {
+                let (reply, _) = step(table, request);
+                Answer::Set(clean_after(table, *clean, request, reply))
+            }
             Question::Step { table, request } => table_answer(step(table, request)),
             Question::Landing { held, copies } => {
                 Answer::Slots(copies.iter().map(|&copy| landed(*held, copy)).collect())
@@ -264,6 +289,7 @@ impl Question {
     pub fn subject(&self) -> String {
         let subject = match self {
             Question::Clean { .. } => CLEAN,
+            Question::CleanAfter { .. } => CLEAN_AFTER,
             Question::Step { request, .. } => match Code::of(request.code()) {
                 Some(code) => return code.label(),
                 None => UNKNOWN,
@@ -309,7 +335,8 @@ impl Answer {
             Answer::Entries(list) if list.len() > MAX_ENTRIES => 11,
             Answer::Passing(all) if all.contains(&false) => Refusal::RightNotListed.number(),
             Answer::Sound(all) if all.contains(&false) => Refusal::TableNotSound.number(),
-            Answer::Clean(..) | Answer::Slots(_) | Answer::Worth(_) | Answer::There(_) => 0,
+            Answer::Clean(..) | Answer::Set(_) | Answer::Slots(_) => 0,
+            Answer::Worth(_) | Answer::There(_) => 0,
             Answer::Ask(_) | Answer::Entries(_) | Answer::Passing(_) | Answer::Sound(_) => 0,
         }
     }

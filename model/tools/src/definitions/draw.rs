@@ -2,7 +2,7 @@
 //! refusal is asked in turn.
 
 use super::cases::{Answer, Case, Question};
-use super::clean::clean_run;
+use super::clean::{clean_after_one, clean_run, AFTERS};
 use super::landing::{landing, LANDINGS};
 use super::makers::{by_makers, STATUSES};
 use super::passing::{passing, PASSING_LISTS};
@@ -11,19 +11,20 @@ use super::worth::{worth, WORTH_QUESTIONS};
 use crate::empty_kinds::EmptyKind;
 use crate::generate::{
     allocate_by_made, any_damage, can_meet, confine_input, confinement_case, destroy_of_made,
-    empty_copy_case, full_import, image_of, import_case, layered_case, likely_request, shown_case,
-    sound_table, step_case, write_case, Shape, StepCase, CONFINEMENT_NUMBERS, CONFINE_NUMBERS,
-    IMAGE_NUMBERS, IMPORT_NUMBERS, SHOWN_NUMBERS, WRITE_NUMBERS,
+    empty_copy_case, full_import, image_of, import_case, layered_case, likely_request,
+    reclaim_case, reclaim_through, shown_case, sound_table, step_case, write_case, ReclaimKind,
+    Shape, StepCase, CONFINEMENT_NUMBERS, CONFINE_NUMBERS, IMAGE_NUMBERS, IMPORT_NUMBERS,
+    SHOWN_NUMBERS, STEP_REPLIES, WRITE_NUMBERS,
 };
 use crate::rng::Rng;
 use crate::shared::{
     shared_images, shared_imports, shared_rounds, shared_steps, shared_steps_with_makers,
-    shared_tests, shared_tests_with_makers,
+    shared_steps_with_reclaims, shared_tests, shared_tests_with_reclaims,
 };
 use crate::shared::{ImageLine, SharedStep, SharedTest};
 use yavrinks_model::image::{read, Version, VERSION_AT};
 use yavrinks_model::step::{step, step_in_place, Code, Request};
-use yavrinks_model::table::{Capability, ALL_RIGHTS, RD, TX, WK};
+use yavrinks_model::table::{Capability, ALL_RIGHTS, RD, TX, WK, WR};
 use yavrinks_model::wire::encode;
 
 /// How much is drawn.
@@ -36,9 +37,9 @@ pub struct Counts {
     pub rounds: usize,
     /// How many of the shared imports are asked, from the first on.
     pub imports: usize,
-    /// How many of the shared tests are asked, from the first of 2.3 over those of 2.6 to the last of 2.7.
+    /// How many of the shared tests are asked: those of 2.8, which are those of 2.7 too, then of 2.3, then of 2.6.
     pub tests: usize,
-    /// How many of the shared steps are asked, from the first of 2.4 to the last of 2.7.
+    /// How many of the shared steps are asked: those of 2.8, then of 2.7, then of 2.4.
     pub steps: usize,
     /// How many of the shared images are asked, from the first on.
     pub images: usize,
@@ -60,9 +61,13 @@ impl Default for Counts {
 /// All cases of a run: the questions with the model's answers, then the shared tests, the shared steps and the
 /// shared images with their own.
 pub fn cases(seed: u64, counts: &Counts) -> Vec<Case> {
-    let tests = shared_tests_with_makers().into_iter().chain(shared_tests());
-    let tests = tests.chain(shared_rounds()).take(counts.tests);
-    let steps = shared_steps_with_makers().into_iter().chain(shared_steps());
+    let tests = shared_tests_with_reclaims().into_iter();
+    let tests = tests.chain(shared_tests()).chain(shared_rounds());
+    let tests = tests.take(counts.tests);
+    let steps = shared_steps_with_reclaims().into_iter();
+    let steps = steps
+        .chain(shared_steps_with_makers())
+        .chain(shared_steps());
     let steps = steps.take(counts.steps);
     let images = shared_images().into_iter().take(counts.images);
     let questions = questions(seed, counts).into_iter();
@@ -122,7 +127,7 @@ type Draw = fn(&mut Rng, usize) -> Question;
 /// The questions of a run. Each kind has a generator of its own, so that the number of one kind
 /// does not change the questions of another.
 pub fn questions(seed: u64, counts: &Counts) -> Vec<Question> {
-    let in_a_round: [(usize, Draw); 19] = [
+    let in_a_round: [(usize, Draw); 21] = [
         (aims().len(), aimed_step),
         (TELLING, telling_step),
         (4, run),
@@ -132,7 +137,7 @@ pub fn questions(seed: u64, counts: &Counts) -> Vec<Question> {
         (IMAGES, image),
         (WRITES, written),
         (DECISIONS, decision),
-        (18, request_bytes),
+        (20, request_bytes),
         (6, list_bytes),
         (12, chain),
         (WIDTHS.len(), least_chain),
@@ -142,6 +147,8 @@ pub fn questions(seed: u64, counts: &Counts) -> Vec<Question> {
         (LANDINGS, landing),
         (WORTH_QUESTIONS, worth),
         (SPREADINGS, spreading),
+        (RECLAIMS, reclaim),
+        (AFTERS, clean_after_one),
     ];
     let rounds = in_a_round.map(|(count, draw)| (counts.rounds * count, draw));
     let mut seeds = Rng::new(seed);
@@ -156,13 +163,16 @@ pub fn questions(seed: u64, counts: &Counts) -> Vec<Question> {
 }
 
 /// Codes that are no request.
-pub const UNKNOWN_CODES: [u8; 6] = [0, 9, 255, 10, 64, 128];
+pub const UNKNOWN_CODES: [u8; 6] = [0, 10, 255, 11, 64, 128];
 
 /// Every code with every reply that it can get. Done comes twice, since only there the table changes.
 fn aims() -> Vec<(u8, u8)> {
     let codes = Code::ALL.map(Code::number).into_iter().chain([0]);
     codes
-        .flat_map(|code| [0, 0, 1, 2, 3, 4, 5, 6, 7, 8, 9].map(|aim| (code, aim)))
+        .flat_map(|code| {
+            let twice = [0].into_iter().chain(STEP_REPLIES);
+            twice.map(move |aim| (code, aim))
+        })
         .filter(|&(code, aim)| can_meet(code, aim))
         .collect()
 }
@@ -190,6 +200,24 @@ fn stated(case: StepCase) -> Question {
         table: case.table,
         request: case.request,
     }
+}
+
+/// The slots of reclaims that are refused: the number, and the rights.
+const REFUSED_RECLAIMS: [(u8, u8); 4] = [(24, WR), (24, RD), (6, WK), (6, RD | TX)];
+
+/// How many reclaims are drawn beside those that are aimed at a reply.
+const RECLAIMS: usize = ReclaimKind::ALL.len() + REFUSED_RECLAIMS.len();
+
+/// Every kind of reclaim that is done, then some that are refused.
+fn reclaim(rng: &mut Rng, turn: usize) -> Question {
+    let place = turn % RECLAIMS;
+    stated(match ReclaimKind::ALL.get(place) {
+        Some(&kind) => reclaim_case(rng, kind),
+        None => {
+            let (aim, rights) = REFUSED_RECLAIMS[place - ReclaimKind::ALL.len()];
+            reclaim_through(rng, aim, rights)
+        }
+    })
 }
 
 /// How many steps are drawn by hand.
@@ -388,17 +416,17 @@ fn decision(rng: &mut Rng, turn: usize) -> Question {
 /// The bytes of a request of each code in turn, then the same with a byte less or more, and any bytes
 /// at all.
 fn request_bytes(rng: &mut Rng, turn: usize) -> Question {
-    let (code, aim) = match turn % 9 {
-        8 => (9, 2),
+    let (code, aim) = match turn % 10 {
+        9 => (10, 2),
         place => (Code::ALL[place].number(), 0),
     };
     let mut bytes = encode(&step_case(rng, code, aim).request);
-    match turn % 18 {
-        0..=8 => {}
-        9 => bytes.truncate(0),
-        10 => bytes.truncate(1),
-        11 | 13 | 15 => bytes.push(rng.byte(0, 255)),
-        17 => bytes = (0..24).map(|_| rng.byte(0, 255)).collect(),
+    match turn % 20 {
+        0..=9 => {}
+        10 => bytes.truncate(0),
+        11 => bytes.truncate(1),
+        12 | 14 | 16 => bytes.push(rng.byte(0, 255)),
+        19 => bytes = (0..24).map(|_| rng.byte(0, 255)).collect(),
         _ => {
             bytes.pop();
         }

@@ -15,10 +15,10 @@ pub const CRATES: [&str; 7] = [
 pub const HEAD: &str = "\
 -- Answers of the model, which the definitions have to give too.
 use mathlib.Core.Path.{_≡_, refl}
-use mathlib.Core.Bool.{Bool, true, false}
+use mathlib.Core.Bool.{Bool, true, false, _&&_}
 use mathlib.Core.List.{List, [], _∷_, map}
 use Prim.Native.Nat.{ℕ}
-use Rattle.mask.specs.Sets.{bits}
+use Rattle.mask.specs.Sets.{bits, has}
 use Rattle.table.specs.declared.Capability.{Capability}
 use Rattle.table.specs.declared.Record.{Record}
 use Rattle.table.specs.declared.Table.{Table}
@@ -28,7 +28,7 @@ use Rattle.rights.specs.declared.Need.the-variants.{ReadOrWeak, Write, Send}
 use Rattle.rights.specs.declared.Worth.{Worth}
 use Rattle.rights.specs.Rows.{worthOf, needMet, weaken}
 use Rattle.requests.specs.declared.Pair.{Pair}
-use Rattle.requests.specs.Asks.{Ask, read, write, fetch, store, revoke, send, allocate, destroy, unknown}
+use Rattle.requests.specs.Asks.{Ask, read, write, fetch, store, revoke, send, allocate, destroy, reclaim, unknown}
 use Rattle.refusals.specs.Replies.{number}
 use Rattle.copies.specs.Copies.{landed}
 use Rattle.steps.specs.declared.Stepped.{Stepped}
@@ -53,7 +53,7 @@ use Rattle.wire.specs.Wires.{askFrom}
 use Rattle.entries.specs.Entries.{entriesIn}
 use Rattle.lines.specs.declared.Decision.{Decision}
 use Rattle.report.specs.Decisions.{decisionOf}
-use Rattle.isolation.specs.Clean.{cleanAtStart, cleanAtEnd, cleanRequests, cleanReplies}
+use Rattle.isolation.specs.Clean.{cleanAtStart, cleanAfter, cleanAtEnd, cleanRequests, cleanReplies, comparedAtStart, comparedAtEnd}
 
 abbrev object : ℕ → ℕ → ℕ → ℕ → ℕ → Record
 object status kind word stock maker = record { status = status; kind = kind; maker = maker; word = word; stock = stock }
@@ -72,6 +72,12 @@ pair from to = record { from = from; to = to }
 
 abbrev withMaker : Record → ℕ → Record
 withMaker r maker = object (r .status) (r .kind) (r .word) (r .stock) maker
+
+abbrev among : ℕ → ℕ → Bool
+among set n = has n set
+
+abbrev inBoth : (ℕ → Bool) → (ℕ → Bool) → ℕ → Bool
+inBoth one other n = one n && other n
 
 abbrev soundIf : Table → ℕ → ℕ → Bool
 soundIf t n maker = sound (putRecord t n (withMaker (recordAt t n) maker))

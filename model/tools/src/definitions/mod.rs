@@ -11,6 +11,7 @@ mod heads;
 mod landing;
 mod makers;
 pub mod misread_makers;
+pub mod misread_reclaim;
 mod options;
 mod passing;
 pub mod scratch;

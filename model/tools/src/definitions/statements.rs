@@ -78,6 +78,15 @@ impl Writer<'_> {
                 requests,
                 parts,
             } => self.clean(start, requests, parts),
+            Question::CleanAfter {
+                table,
+                clean,
+                request,
+            } => {
+                let table = self.table("table", table);
+                let ask = terms::ask(request);
+                format!("bits 64 (cleanAfter {table} (among {clean}) ({ask}))")
+            }
             Question::Step { table, request } => {
                 let table = self.table("table", table);
                 format!("stepped (stepOf {table} ({}))", terms::ask(request))
@@ -169,6 +178,11 @@ impl Writer<'_> {
         let term = |part: &Part| match part {
             Part::AtStart => format!("bits 64 ({at_start})"),
             Part::AtEnd => format!("bits 64 (cleanAtEnd {from})"),
+            Part::Compared => {
+                let compared = format!("comparedAtStart {table} ({at_start})");
+                let compared = format!("comparedAtEnd {table} ({at_start}) ({compared}) {asks}");
+                format!("bits 64 (inBoth (cleanAtEnd {from}) ({compared}))")
+            }
             Part::Requests => format!("cleanRequests {from}"),
             Part::Replies => format!("map number (cleanReplies {from})"),
         };
@@ -182,6 +196,7 @@ impl Writer<'_> {
             let (kind, term) = match part {
                 Part::AtStart => ("ℕ", start.to_string()),
                 Part::AtEnd => ("ℕ", along.clean.to_string()),
+                Part::Compared => ("ℕ", along.compared.to_string()),
                 Part::Requests => ("List Ask", self.asks("asked", &along.requests)),
                 Part::Replies => ("List ℕ", terms::bytes(&along.replies)),
             };
@@ -201,6 +216,7 @@ impl Writer<'_> {
                 };
                 return self.clean_answer(parts, *start, along);
             }
+            Answer::Set(set) => ("ℕ", set.to_string()),
             Answer::Table(number, table) => {
                 let table = self.table_after(question, table);
                 ("ℕ × Table", format!("({number}, {table})"))

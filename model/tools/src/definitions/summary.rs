@@ -8,7 +8,7 @@ use std::collections::BTreeMap;
 use std::path::Path;
 
 /// The highest number that is answered.
-const HIGHEST: u8 = 23;
+const HIGHEST: u8 = 24;
 /// How much of a checker's message is shown.
 const SHOWN: usize = 200;
 

@@ -123,6 +123,7 @@ pub fn ask(request: &Request) -> String {
             list,
         } => format!("allocate {actor} {n} {kind} {part} {i} ({})", pairs(list)),
         Request::Destroy { actor, t } => format!("destroy {actor} {t}"),
+        Request::Reclaim { actor, t } => format!("reclaim {actor} {t}"),
         Request::Unknown { code, actor } => format!("unknown {code} {actor}"),
     }
 }

@@ -3,6 +3,7 @@
 
 use super::cases::{Answer, Case, Part, Question};
 use super::misread_makers;
+use super::misread_reclaim::{misread_after, misread_clean, misread_steps};
 use crate::copies::landed_by;
 use crate::empty_kinds::empty_kinds;
 use crate::misread_rounds::{Misreading, MISREADINGS};
@@ -20,7 +21,7 @@ use yavrinks_model::table::{Capability, Table, ACTIVE, ALIVE, ALL_RIGHTS, WK};
 /// land, one for each that is asked about; of what rights are worth, one for each thing that is said of the values
 /// 0 to 15; of what is there after rounds, one round more for each that adds something; of steps also some where an
 /// empty copy empties; of tests also one for each wrong reading of how many rounds there are; of soundness, one for
-/// each maker; and one for each wrong reading of 2.7.
+/// each maker; and one for each wrong reading of 2.7 and of 2.8.
 pub fn wrong_cases(rng: &mut Rng, cases: &[Case]) -> Vec<Case> {
     let mut wrong = Vec::new();
     let mut seen = Vec::new();
@@ -36,6 +37,9 @@ pub fn wrong_cases(rng: &mut Rng, cases: &[Case]) -> Vec<Case> {
     wrong.extend(cases.iter().flat_map(wrong_makers));
     let of_makers = misread_makers::MISREADINGS.iter();
     wrong.extend(of_makers.filter_map(|one| misread_maker(one, cases)));
+    wrong.extend(misread_steps(cases));
+    wrong.extend(misread_clean(cases));
+    wrong.extend(misread_after(cases));
     wrong
 }
 
@@ -253,6 +257,7 @@ fn other_number(answer: &Answer) -> Answer {
         Answer::Slots(slots) => slots.push(Capability::EMPTY),
         Answer::Worth(rows) => rows.push([false; 4]),
         Answer::Clean(start, _) => *start ^= 1,
+        Answer::Set(set) => *set ^= 1,
     }
     answer
 }
@@ -280,6 +285,7 @@ fn other_content(rng: &mut Rng, answer: &Answer) -> Answer {
         }
         Answer::Entries(list) => list.push((0, 0)),
         Answer::Decided(_, bound) => *bound ^= 1 << rng.between(0, 63),
+        Answer::Set(set) => *set ^= 1 << rng.between(0, 63),
         Answer::Passing(truths) | Answer::Sound(truths) => truths.push(true),
         Answer::There(sets) => sets.push(0),
         Answer::Slots(slots) => slots.push(Capability::EMPTY),
@@ -300,6 +306,7 @@ fn wrong_part(case: &Case, part: Part, mut start: u64, along: &CleanPart) -> Cas
     match part {
         Part::AtStart => start ^= 1,
         Part::AtEnd => along.clean ^= 1,
+        Part::Compared => along.compared ^= 1,
         Part::Requests => drop(along.requests.remove(0)),
         Part::Replies => along.replies[0] += 1,
     }

@@ -1,4 +1,4 @@
-//! Random tables, requests, empty copies, tests, questions for a chain, images, tables to be written, inputs
+//! Random tables, requests, empty copies, reclaims, tests, questions for a chain, images, tables to be written, inputs
 //! and imports, each aimed at a chosen outcome.
 //! All of it follows from the seed of the generator that is lent to it.
 
@@ -8,6 +8,7 @@ mod empty_requests;
 mod images;
 mod imports;
 mod makers;
+mod reclaims;
 mod requests;
 mod shown;
 mod tables;
@@ -23,8 +24,10 @@ pub use images::{
 };
 pub use imports::{full_import, import_bytes, import_case, IMPORT_NUMBERS};
 pub use makers::{allocate_by_made, destroy_of_made};
+pub use reclaims::{reclaim_case, reclaim_through, ReclaimKind};
 pub use requests::{
     actor_mut, any_request, bounded_fields, can_meet, likely_request, step_case, StepCase,
+    STEP_REPLIES,
 };
 pub use shown::{layered_case, layered_test, shown_case, ShownCase, SHOWN_NUMBERS};
 pub use tables::{

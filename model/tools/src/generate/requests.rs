@@ -6,7 +6,8 @@ use super::tables::{any_damage, any_word, numbers_where, sound_table, Shape};
 use crate::rng::Rng;
 use yavrinks_model::set;
 use yavrinks_model::step::{Code, Fields, Pair, Request, MAX_PAIRS, NO_REPLY};
-use yavrinks_model::table::{Capability, Record, Table, ACTIVE, ALL_RIGHTS, PASSIVE};
+use yavrinks_model::table::{Capability, Record, Table};
+use yavrinks_model::table::{ACTIVE, ALIVE, ALL_RIGHTS, DEAD, PASSIVE};
 
 /// A table and a request for it.
 #[derive(Clone, Debug, PartialEq, Eq)]
@@ -15,16 +16,21 @@ pub struct StepCase {
     pub request: Request,
 }
 
-/// Whether a request with this code can get the reply `aim`, from 0 to 9.
+/// Every reply that a request can get: 0, then the refusals in the order of the checks.
+pub const STEP_REPLIES: [u8; 11] = [0, 1, 2, 3, 4, 24, 5, 6, 7, 8, 9];
+
+/// Whether a request with this code can get the reply `aim`, one of the above.
 pub fn can_meet(code: u8, aim: u8) -> bool {
     let known = Code::of(code).is_some();
     match aim {
         1 | 2 => true,
         0 | 3 => known,
-        4..=6 => known && code != 7,
+        4 | 6 => known && code != 7,
+        5 => known && code != 7 && code != 9,
         7 => code == 6,
         8 => code == 8,
         9 => code == 7,
+        24 => code == 9,
         _ => false,
     }
 }
@@ -47,7 +53,7 @@ fn try_case(rng: &mut Rng, code: u8, aim: u8) -> Option<StepCase> {
             any_damage(rng, &mut case.table);
             Some(case)
         }
-        (0 | 9..=255, _) => Some(unknown_case(rng, code)),
+        (0 | 10..=255, _) => Some(unknown_case(rng, code)),
         (_, 2) => {
             let mut case = case_with_later_aim(rng, code, aim);
             put_out_of_range(rng, &mut case.request);
@@ -65,7 +71,8 @@ fn try_case(rng: &mut Rng, code: u8, aim: u8) -> Option<StepCase> {
 
 /// A case that would be done, or refused by a check after `aim`.
 fn case_with_later_aim(rng: &mut Rng, code: u8, aim: u8) -> StepCase {
-    let later: Vec<u8> = (aim + 1..=9).filter(|&a| can_meet(code, a)).collect();
+    let checks = STEP_REPLIES.into_iter().skip_while(|&a| a != aim).skip(1);
+    let later: Vec<u8> = checks.filter(|&a| can_meet(code, a)).collect();
     let chosen = rng.pick(&later);
     match chosen {
         Some(later) if rng.percent(40) || !can_meet(code, 0) => step_case(rng, code, later),
@@ -84,7 +91,7 @@ fn unknown_case(rng: &mut Rng, code: u8) -> StepCase {
     }
 }
 
-/// Aims 0 and 4 to 8: the capability that leads to the reply is put into a slot of the actor.
+/// Aims 0, 4 to 8 and 24: the capability that leads to the reply is put into a slot of the actor.
 fn used_slot_case(rng: &mut Rng, code: u8, aim: u8) -> Option<StepCase> {
     let shape = Shape::mixed(rng);
     let mut table = sound_table(rng, &shape);
@@ -93,7 +100,7 @@ fn used_slot_case(rng: &mut Rng, code: u8, aim: u8) -> Option<StepCase> {
     let (t, needed) = request.used_slot()?;
     let mut targets = match (aim, code) {
         (8, _) => vec![actor],
-        (5, _) => numbers_where(&table, |record| record.is_born() && !record.is_alive()),
+        (5, _) | (0 | 6, 9) => numbers_where(&table, |record| record.status == DEAD),
         (7, _) => numbers_where(&table, |record| record.is_alive() && !record.is_active()),
         (0, 6) => numbers_where(&table, Record::can_act),
         _ => numbers_where(&table, Record::is_alive),
@@ -105,7 +112,7 @@ fn used_slot_case(rng: &mut Rng, code: u8, aim: u8) -> Option<StepCase> {
         targets = vec![actor];
     }
     let mut rights = rng.byte(1, ALL_RIGHTS);
-    while aim != 5 && (rights & needed == 0) != (aim == 6) {
+    while aim != 5 && aim != 24 && (rights & needed == 0) != (aim == 6) {
         rights = rng.byte(1, ALL_RIGHTS);
     }
     table.record_mut(actor).slots[usize::from(t)] = if aim == 4 {
@@ -201,6 +208,7 @@ pub fn actor_mut(request: &mut Request) -> &mut u8 {
         | Request::Send { actor, .. }
         | Request::Allocate { actor, .. }
         | Request::Destroy { actor, .. }
+        | Request::Reclaim { actor, .. }
         | Request::Unknown { actor, .. } => actor,
     }
 }
@@ -211,7 +219,8 @@ pub fn bounded_fields(request: &mut Request) -> Vec<(&mut u8, u8)> {
     match request {
         Request::Read { actor, t }
         | Request::Write { actor, t, .. }
-        | Request::Destroy { actor, t } => vec![(actor, 63), (t, 7)],
+        | Request::Destroy { actor, t }
+        | Request::Reclaim { actor, t } => vec![(actor, 63), (t, 7)],
         Request::Fetch { actor, t, i, j } | Request::Store { actor, t, i, j } => {
             vec![(actor, 63), (t, 7), (i, 7), (j, 7)]
         }
@@ -281,7 +290,7 @@ fn loose_byte(rng: &mut Rng, highest: u8) -> u8 {
 /// A request without regard to any table: each field is mostly in range.
 pub fn any_request(rng: &mut Rng) -> Request {
     let code = if rng.percent(95) {
-        rng.byte(1, 8)
+        rng.byte(1, 9)
     } else {
         rng.byte(0, 255)
     };
@@ -308,7 +317,7 @@ pub fn likely_request(rng: &mut Rng, table: &Table) -> Request {
 /// A request of the given actor for which, if possible, a slot or a number of its own serves.
 fn granted_request(rng: &mut Rng, table: &Table, actor: u8) -> Request {
     // Destroy is rarer than the others, so that a run does not soon end with all dead.
-    let codes = [1, 2, 3, 3, 3, 4, 4, 4, 5, 6, 6, 6, 7, 7, 7, 8];
+    let codes = [1, 2, 3, 3, 3, 4, 4, 4, 5, 6, 6, 6, 7, 7, 7, 8, 9];
     let code = rng.pick(&codes).and_then(Code::of).unwrap_or(Code::Read);
     let record = table.record(actor);
     if code == Code::Allocate {
@@ -337,12 +346,16 @@ fn sometimes_empty(rng: &mut Rng, table: &Table, mut request: Request) -> Reques
     request
 }
 
-/// Whether the used slot names an alive object with a needed right.
+/// Whether the used slot names an alive object with a needed right; for reclaim a dead one.
 fn slot_serves(table: &Table, request: &Request) -> bool {
+    let status = match request {
+        Request::Reclaim { .. } => DEAD,
+        _ => ALIVE,
+    };
     match request.used_slot() {
         Some((t, needed)) => {
             let used = table.record(request.actor()).slots[usize::from(t)];
-            used.has_any(needed) && table.record(used.target).is_alive()
+            used.has_any(needed) && table.record(used.target).status == status
         }
         None => false,
     }

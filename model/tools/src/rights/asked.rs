@@ -22,6 +22,12 @@ const REPLY: u8 = 5;
 const WORD: u32 = 77;
 /// What the actor can make.
 const UNMADE: u8 = 60;
+/// The target when it is dead, as a destroy leaves it and a reclaim finds it.
+const DEAD_RECORD: Record = Record {
+    status: DEAD,
+    kind: ACTIVE,
+    ..Record::UNBORN
+};
 
 /// A request, and what is to come of it.
 #[derive(Clone, Debug, PartialEq, Eq)]
@@ -80,7 +86,7 @@ pub fn first_fault(
     asked.iter().find(|one| !is_right(one))
 }
 
-/// All three are alive and active, and actor and target have a word and a stock.
+/// All three are alive and active, and actor and target have a word and a stock. For a reclaim the target dies.
 fn table(used: u8, found: u8) -> Table {
     let mut table = Table::unborn();
     for (n, word) in [(ACTOR, 5), (TARGET, 9), (OTHER, 0)] {
@@ -152,12 +158,14 @@ fn one(used: &Row, column: Column, code: Code) -> Asked {
             }
             Code::Destroy => {
                 let stock = target.stock;
-                *target = Record {
-                    status: DEAD,
-                    kind: ACTIVE,
-                    ..Record::UNBORN
-                };
+                *target = DEAD_RECORD;
                 table.record_mut(ACTOR).stock |= stock;
+            }
+            Code::Reclaim => {
+                *target = Record::UNBORN;
+                let actor = table.record_mut(ACTOR);
+                actor.slots[usize::from(USED)] = Capability::EMPTY;
+                actor.stock |= set::single(TARGET);
             }
             Code::Fetch | Code::Allocate => {}
         }
@@ -189,7 +197,10 @@ fn expected(
     request: Request,
     effect: impl FnOnce(&mut Table),
 ) -> Asked {
-    let table = table(used.value, found);
+    let mut table = table(used.value, found);
+    if matches!(request, Request::Reclaim { .. }) {
+        *table.record_mut(TARGET) = DEAD_RECORD;
+    }
     let mut after = table.clone();
     let reply = match (used.value, used.says(column)) {
         (0, _) => Refusal::SlotEmpty.number(),

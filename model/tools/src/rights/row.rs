@@ -11,7 +11,7 @@ pub enum Column {
     Weakened,
     /// May read and fetch.
     Reads,
-    /// May write, store, revoke and destroy.
+    /// May write, store, revoke, destroy and reclaim.
     Writes,
     /// May send.
     Sends,
@@ -33,7 +33,13 @@ impl Column {
         match self {
             Column::Weakened => &[],
             Column::Reads => &[Code::Read, Code::Fetch],
-            Column::Writes => &[Code::Write, Code::Store, Code::Revoke, Code::Destroy],
+            Column::Writes => &[
+                Code::Write,
+                Code::Store,
+                Code::Revoke,
+                Code::Destroy,
+                Code::Reclaim,
+            ],
             Column::Sends => &[Code::Send],
         }
     }

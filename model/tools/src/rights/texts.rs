@@ -6,7 +6,7 @@ use yavrinks_model::table::ALL_RIGHTS;
 
 /// The first two lines of the sheet.
 pub const SHEET_HEAD: &str = "| value | rights | weakened | may read and fetch \
-    | may write, store, revoke and destroy | may send | agreed |\n\
+    | may write, store, revoke, destroy and reclaim | may send | agreed |\n\
     |---|---|---|---|---|---|---|\n";
 
 /// The words of a place for wk and for empty, for yes and for no.

@@ -95,7 +95,7 @@ fn try_all(options: &Options, output: &mut impl Write) -> io::Result<bool> {
             None => "NOT CAUGHT".to_string(),
         };
         as_it_should_be &= trial.found.is_some();
-        writeln!(output, "  {:<26}{caught:<22}{}", broken.name, broken.says)?;
+        writeln!(output, "  {:<29}{caught:<22}{}", broken.name, broken.says)?;
     }
     Ok(as_it_should_be)
 }

@@ -50,6 +50,10 @@ fn difference_text(difference: &Difference, tables: &[Table; 2]) -> String {
             let (first, second) = (set_text(*first), set_text(*second));
             format!("  the clean objects differ: {first} and {second}\n")
         }
+        Difference::Compared(first, second) => {
+            let (first, second) = (set_text(*first), set_text(*second));
+            format!("  the compared makers differ: {first} and {second}\n")
+        }
         Difference::Object(n) => {
             let [first, second] = tables.each_ref().map(|table| record_text(table.record(*n)));
             format!(
@@ -167,6 +171,7 @@ fn request_text(request: &Request) -> String {
             pairs_text(list)
         ),
         Request::Destroy { t, .. } => format!("{actor} destroys, t {t}"),
+        Request::Reclaim { t, .. } => format!("{actor} reclaims, t {t}"),
         Request::Unknown { code, .. } => format!("{actor} asks with code {code}"),
     }
 }

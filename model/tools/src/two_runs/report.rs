@@ -8,6 +8,9 @@ use yavrinks_model::step::Code;
 pub fn trial_text(trial: &Trial) -> String {
     let tally = &trial.tally;
     let (clean, others) = (tally.empty_by_clean, tally.empty_by_others);
+    let (by_clean, by_others) = tally.by_code(Code::Reclaim.number());
+    let (anew, anew_others) = (tally.anew_by_clean, tally.anew_by_others);
+    let crossed = anew.crossed + anew_others.crossed;
     let mut text = codes_text(tally) + "\n" + &actors_text(tally) + "\n";
     let rows = [
         ("pairs of runs", trial.pairs),
@@ -20,6 +23,7 @@ pub fn trial_text(trial: &Trial) -> String {
         ("  with unlisted wk in both tables", trial.unlisted_in_both),
         ("  with it used in one run only", trial.used_in_one),
         ("  with empty copies in one run only", trial.empty_in_one),
+        ("  with reclaims in one run only", trial.reclaimed_in_one),
         ("clean objects at the start", trial.clean_at_start),
         ("objects made clean on the way", trial.made_clean),
         ("objects made by others on the way", tally.by_code(7).1.done),
@@ -30,6 +34,20 @@ pub fn trial_text(trial: &Trial) -> String {
             "  with a maker dead in one run only",
             trial.maker_dead_in_one,
         ),
+        ("makers of clean objects compared", trial.makers_compared),
+        ("  that are not 64", trial.makers_compared_with),
+        ("makers of clean objects left out", trial.makers_left_out),
+        ("  that differ", trial.makers_that_differ),
+        ("reclaims by clean actors", by_clean.done),
+        ("reclaims by others", by_others.done),
+        ("  of a number that another holds", tally.reclaimed_held),
+        ("  that one across holds", tally.reclaimed_held_across),
+        ("  of a clean object's maker", tally.makers_taken),
+        ("made anew by clean, who reclaimed", anew.by_same),
+        ("made anew by another clean one", anew.by_another),
+        ("made anew by others, who reclaimed", anew_others.by_same),
+        ("made anew by another of the others", anew_others.by_another),
+        ("  from clean to others or back", crossed),
         ("done by others to clean objects", tally.of_clean_by_others),
         ("  read through unlisted wk", tally.unlisted_reads),
         ("  fetched through unlisted wk", tally.unlisted_fetches),

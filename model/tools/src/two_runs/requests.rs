@@ -6,11 +6,13 @@ use crate::generate::{actor_mut, any_request, turn_to_empty};
 use crate::rng::Rng;
 use yavrinks_model::set;
 use yavrinks_model::step::{Code, Fields, Pair, Request, MAX_PAIRS, NO_REPLY};
-use yavrinks_model::table::{Record, Table, ACTIVE, PASSIVE, SLOTS, UNBORN};
+use yavrinks_model::table::{Record, Table, ACTIVE, ALIVE, DEAD, PASSIVE, SLOTS, UNBORN};
 
 /// Codes by how often they are tried. Revoke and destroy are rare, since they end what the
-/// others need.
-const CODES: [u8; 20] = [1, 1, 2, 2, 2, 3, 3, 3, 3, 4, 4, 4, 5, 6, 6, 6, 7, 7, 7, 8];
+/// others need. Reclaim comes often, since few slots serve it.
+const CODES: [u8; 25] = [
+    1, 1, 2, 2, 2, 3, 3, 3, 3, 4, 4, 4, 5, 6, 6, 6, 7, 7, 7, 8, 8, 9, 9, 9, 9,
+];
 
 /// A request whose actor is clean. There must be a clean object.
 pub fn clean_request(rng: &mut Rng, table: &Table, clean: u64) -> Request {
@@ -104,8 +106,9 @@ fn slot_serves(table: &Table, actor: u8, code: Code, t: u8) -> bool {
     };
     let used = table.record(actor).slots[usize::from(t)];
     let target = table.record(used.target);
+    let status = if code == Code::Reclaim { DEAD } else { ALIVE };
     used.has_any(needed)
-        && target.is_alive()
+        && target.status == status
         && (code != Code::Send || target.is_active())
         && (code != Code::Destroy || used.target != actor)
 }

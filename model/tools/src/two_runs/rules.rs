@@ -52,10 +52,50 @@ pub enum Recorded {
 pub enum Makers {
     /// As in 2.7: they stay.
     Stay,
-    /// What a destroyed object made has 64.
-    GoWithMaker,
     /// What is read has its reader.
     TakenByReader,
+}
+
+/// When a reclaim is refused though its target is dead.
+#[derive(Clone, Copy, Debug, PartialEq, Eq)]
+pub enum Reclaimable {
+    /// As in 2.8: if the slot has no wr.
+    ByWr,
+    /// If it has neither wr nor wk.
+    ByWrOrWk,
+    /// Also while another object holds a capability over the number.
+    UnlessHeld,
+    /// Also while it is the maker of an object.
+    UnlessMaker,
+}
+
+/// What a reclaim leaves.
+#[derive(Clone, Copy, Debug, PartialEq, Eq)]
+pub enum Left {
+    /// As in 2.8: nothing that names the number.
+    Nothing,
+    /// Capabilities of all but the actor. The table is not sound, and what comes next is answered 1.
+    Capabilities,
+    /// The maker bytes. The table is not sound either.
+    Makers,
+}
+
+/// Whose stock a reclaimed number joins.
+#[derive(Clone, Copy, Debug, PartialEq, Eq)]
+pub enum Joins {
+    /// As in 2.8: the actor's.
+    Actor,
+    /// That of the object that made it, if that is alive; else the actor's.
+    ItsMaker,
+}
+
+/// Of which clean objects the makers are compared.
+#[derive(Clone, Copy, Debug, PartialEq, Eq)]
+pub enum Compared {
+    /// As in 2.8: not of those that were born at the start with a maker that was not clean.
+    MadeByClean,
+    /// Of all, as before 2.8.
+    All,
 }
 
 /// Which numbers an allocate can make.
@@ -132,6 +172,10 @@ pub struct Rules {
     pub makes: Makes,
     pub recorded: Recorded,
     pub makers: Makers,
+    pub reclaimable: Reclaimable,
+    pub left: Left,
+    pub joins: Joins,
+    pub compared: Compared,
     pub access: Access,
     pub unlisted: Unlisted,
     pub naming: Naming,
@@ -148,6 +192,10 @@ impl Rules {
         makes: Makes::OwnStock,
         recorded: Recorded::Actor,
         makers: Makers::Stay,
+        reclaimable: Reclaimable::ByWr,
+        left: Left::Nothing,
+        joins: Joins::Actor,
+        compared: Compared::MadeByClean,
         access: Access::AsWritten,
         unlisted: Unlisted::WkAlone,
         naming: Naming::All,
@@ -167,7 +215,7 @@ pub struct Broken {
 }
 
 /// The broken models. Each of them must be caught.
-pub const BROKEN: [Broken; 22] = [
+pub const BROKEN: [Broken; 28] = [
     Broken {
         name: "fetch-not-weakened",
         says: "a fetch through wk copies all rights",
@@ -330,18 +378,66 @@ pub const BROKEN: [Broken; 22] = [
         },
     },
     Broken {
-        name: "maker-goes-when-it-dies",
-        says: "what a destroyed object made has 64 as its maker",
-        rules: Rules {
-            makers: Makers::GoWithMaker,
-            ..Rules::DOCUMENT
-        },
-    },
-    Broken {
         name: "maker-taken-by-reader",
         says: "a read leaves its actor as the maker of what it reads",
         rules: Rules {
             makers: Makers::TakenByReader,
+            ..Rules::DOCUMENT
+        },
+    },
+    Broken {
+        name: "maker-always-compared",
+        says: "equal records include every maker, as before 2.8",
+        rules: Rules {
+            compared: Compared::All,
+            ..Rules::DOCUMENT
+        },
+    },
+    Broken {
+        name: "reclaim-refused-while-held",
+        says: "a reclaim is refused while another object holds a capability over the number",
+        rules: Rules {
+            reclaimable: Reclaimable::UnlessHeld,
+            ..Rules::DOCUMENT
+        },
+    },
+    Broken {
+        name: "reclaim-refused-while-maker",
+        says: "a reclaim is refused while the number is the maker of an object",
+        rules: Rules {
+            reclaimable: Reclaimable::UnlessMaker,
+            ..Rules::DOCUMENT
+        },
+    },
+    Broken {
+        name: "reclaim-through-wk",
+        says: "wk is enough for a reclaim",
+        rules: Rules {
+            reclaimable: Reclaimable::ByWrOrWk,
+            ..Rules::DOCUMENT
+        },
+    },
+    Broken {
+        name: "reclaim-leaves-capabilities",
+        says: "a reclaim empties the actor's slots alone",
+        rules: Rules {
+            left: Left::Capabilities,
+            ..Rules::DOCUMENT
+        },
+    },
+    Broken {
+        name: "reclaim-leaves-makers",
+        says: "a reclaimed number stays the maker of what it made",
+        rules: Rules {
+            left: Left::Makers,
+            ..Rules::DOCUMENT
+        },
+    },
+    Broken {
+        name: "reclaim-returns-to-maker",
+        says: "a reclaimed number joins the stock of the object that made it, if that is alive",
+        rules: Rules {
+            joins: Joins::ItsMaker,
             ..Rules::DOCUMENT
         },
     },

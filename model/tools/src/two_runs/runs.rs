@@ -1,11 +1,12 @@
 //! A pair of runs that is under way, and what may differ between them.
 //! Both runs are taken side by side: a request of a clean actor in both at once, any other in one.
 
-use super::rules::Rules;
+use super::rules::{Compared, Rules};
 use super::tally::{Actor, Tally};
 use crate::generate::unlisted_wk;
 use yavrinks_model::confinement::{Entry, Tested};
-use yavrinks_model::runs::{clean_after, clean_at_start, is_from_clean};
+use yavrinks_model::runs::{claimed_record, clean_after, clean_at_start, is_from_clean};
+use yavrinks_model::runs::{compared_after, compared_at_start};
 use yavrinks_model::set;
 use yavrinks_model::step::Request;
 use yavrinks_model::table::{Capability, Table, OBJECTS, WK};
@@ -36,7 +37,9 @@ pub enum Difference {
     Replies(u8, u8),
     /// The clean objects.
     Clean(u64, u64),
-    /// The record of this clean object: a field, a slot or the maker.
+    /// The clean objects whose makers are compared.
+    Compared(u64, u64),
+    /// The record of this clean object: a field, a slot or, if it is compared, the maker.
     Object(u8),
 }
 
@@ -48,8 +51,14 @@ pub struct Run {
     tested: Tested,
     /// What members held at the start over non-members with wk alone and unlisted: (member, target).
     unlisted_wk: Vec<(u8, u8)>,
+    /// Whether one of these targets was clean at the start.
+    pub has_unlisted_wk: bool,
     /// The objects that are clean by now.
     pub clean: u64,
+    /// Those whose maker is compared.
+    pub compared: u64,
+    /// Who reclaimed a number last, and whether it was clean before.
+    reclaimed: [Option<(u8, bool)>; OBJECTS],
     /// How many requests were taken.
     pub length: u64,
     pub tally: Tally,
@@ -59,12 +68,21 @@ impl Run {
     /// The run before its first request. None if the test refuses.
     pub fn begin(rules: &Rules, table: &Table, members: u64, list: &[Entry]) -> Option<Run> {
         let tested = rules.confinement_test(table, members, list);
-        tested.is_accepted().then(|| Run {
+        if !tested.is_accepted() {
+            return None;
+        }
+        let clean = clean_at_start(table, members, tested.bound);
+        let unlisted_wk = unlisted_wk(table, members, list);
+        let is_clean = |&(_, target): &(u8, u8)| set::contains(clean, target);
+        Some(Run {
             table: table.clone(),
             members,
             tested,
-            unlisted_wk: unlisted_wk(table, members, list),
-            clean: clean_at_start(table, members, tested.bound),
+            has_unlisted_wk: unlisted_wk.iter().any(is_clean),
+            unlisted_wk,
+            clean,
+            compared: compared_at_start(table, clean),
+            reclaimed: [None; OBJECTS],
             length: 0,
             tally: Tally::default(),
         })
@@ -85,12 +103,33 @@ impl Run {
         self.tally.count(actor, request.code(), reply == 0);
         if reply == 0 {
             self.tally.count_empty(actor, &before, request, self.clean);
+            self.count_reuse(&before, request);
         }
         if let (Some(used), 0) = (used, reply) {
             self.count_over_clean(actor, request, used);
         }
-        self.clean = clean_after(self.clean, request, reply);
+        self.compared = compared_after(&before, self.clean, self.compared, request, reply);
+        self.clean = clean_after(&before, self.clean, request, reply);
         reply
+    }
+
+    /// Counts a reclaim that was done, or an allocate of a number that was reclaimed.
+    fn count_reuse(&mut self, before: &Table, request: &Request) {
+        match request {
+            Request::Reclaim { actor, t } => {
+                let target = before.record(*actor).slots[usize::from(*t)].target;
+                self.tally.count_reclaim(before, *actor, target, self.clean);
+                let was_clean = set::contains(self.clean, target);
+                self.reclaimed[usize::from(target)] = Some((*actor, was_clean));
+            }
+            Request::Allocate { actor, n, .. } => {
+                if let Some((by, was_clean)) = self.reclaimed[usize::from(*n)] {
+                    let is_clean = set::contains(self.clean, *actor);
+                    self.tally.count_anew(is_clean, by == *actor, was_clean);
+                }
+            }
+            _ => {}
+        }
     }
 
     /// Counts a request that was done through a capability over a clean object.
@@ -105,27 +144,32 @@ impl Run {
         }
     }
 
-    /// Whether a member held wk alone and unlisted over a clean object at the start. What was born then
-    /// does not become clean later, so that the answer stays the same along the run.
-    pub fn has_unlisted_wk(&self) -> bool {
-        let mut held = self.unlisted_wk.iter();
-        held.any(|&(_, target)| set::contains(self.clean, target))
+    /// The numbers that were reclaimed on the way.
+    pub fn reclaimed(&self) -> u64 {
+        set::of((0..OBJECTS as u8).filter(|&n| self.reclaimed[usize::from(n)].is_some()))
     }
 
-    /// Who a number is by now.
+    /// Whether a born number was reclaimed on the way.
+    pub fn is_made_anew(&self, n: u8) -> bool {
+        self.reclaimed[usize::from(n)].is_some() && self.table.is_born(n)
+    }
+
+    /// Who a number is by now. One that was reclaimed is what its latest making made it.
     pub fn actor(&self, n: u8) -> Actor {
         if usize::from(n) >= OBJECTS {
             Actor::NoNumber
         } else if set::contains(self.clean, n) {
             Actor::Clean
+        } else if !self.table.is_born(n) {
+            Actor::Unborn
+        } else if self.is_made_anew(n) {
+            Actor::MadeByOthers
         } else if set::contains(self.members, n) {
             Actor::Member
         } else if set::contains(self.tested.bound, n) {
             Actor::Bound
-        } else if self.table.is_born(n) {
-            Actor::MadeByOthers
         } else {
-            Actor::Unborn
+            Actor::MadeByOthers
         }
     }
 
@@ -198,13 +242,22 @@ impl TwoRuns {
         self.compare_clean()
     }
 
-    /// The same objects clean, and every clean object with the same record, its slots and its maker included.
+    /// The same objects clean, and every clean object with the same record, its slots included, and its maker if
+    /// that is compared.
     fn compare_clean(&self) -> Result<(), Difference> {
         let (first, second) = (&self.first, &self.second);
         if first.clean != second.clean {
             return Err(Difference::Clean(first.clean, second.clean));
         }
-        match set::numbers(first.clean).find(|&n| first.table.record(n) != second.table.record(n)) {
+        if first.compared != second.compared {
+            return Err(Difference::Compared(first.compared, second.compared));
+        }
+        let compared = match self.rules.compared {
+            Compared::MadeByClean => first.compared,
+            Compared::All => first.clean,
+        };
+        let record = |run: &Run, n| claimed_record(&run.table, compared, n);
+        match set::numbers(first.clean).find(|&n| record(first, n) != record(second, n)) {
             Some(n) => Err(Difference::Object(n)),
             None => Ok(()),
         }

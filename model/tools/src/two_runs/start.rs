@@ -148,7 +148,7 @@ fn maybe_maker(rng: &mut Rng, n: u8, born: &[u8]) -> u8 {
 fn bare_record(rng: &mut Rng) -> Record {
     let mut record = Record::UNBORN;
     record.kind = if rng.percent(70) { ACTIVE } else { PASSIVE };
-    if rng.percent(5) {
+    if rng.percent(9) {
         record.status = DEAD;
     } else {
         record.status = ALIVE;
@@ -207,12 +207,14 @@ fn any_rights(rng: &mut Rng) -> u8 {
     rng.byte(1, ALL_RIGHTS)
 }
 
-/// Gives some of the unborn numbers to alive non-members; the others stay free for members.
+/// Gives some of the unborn numbers to alive non-members; the others stay free for members. In one table of two it is
+/// few, so that a number that is reclaimed is soon made anew.
 fn share_stocks(rng: &mut Rng, parts: &Parts, table: &mut Table) {
     let mut owners = parts.non_members();
     owners.retain(|&n| table.record(n).is_alive());
+    let stocked_percent = rng.pick(&[6, 60]).unwrap_or(60);
     for &n in &parts.unborn {
-        if let (Some(owner), true) = (rng.pick(&owners), rng.percent(60)) {
+        if let (Some(owner), true) = (rng.pick(&owners), rng.percent(stocked_percent)) {
             table.record_mut(owner).stock |= set::single(n);
         }
     }
@@ -303,11 +305,12 @@ fn member_capability(rng: &mut Rng, members: &[u8], list: &[Entry]) -> Capabilit
     }
 }
 
-/// Gives some of the unborn numbers that are in no stock to members.
+/// Gives some of the unborn numbers that are in no stock to members, in one table of two few.
 fn share_free_numbers(rng: &mut Rng, table: &mut Table, members: &[u8]) {
     let stocked = table.records.iter().fold(0, |all, r| all | r.stock);
+    let stocked_percent = rng.pick(&[4, 40]).unwrap_or(40);
     for n in set::numbers(!stocked) {
-        if let (Some(owner), true) = (rng.pick(members), rng.percent(40)) {
+        if let (Some(owner), true) = (rng.pick(members), rng.percent(stocked_percent)) {
             if table.record(n).status == UNBORN {
                 table.record_mut(owner).stock |= set::single(n);
             }

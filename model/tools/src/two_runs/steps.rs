@@ -1,12 +1,15 @@
-//! One request under given rules. Where a copy lands, which numbers can be made, who is recorded as a maker and what
-//! a destroyed object keeps is worked here, since the rules can break it; all else is the model's.
+//! One request under given rules. Where a copy lands, which numbers can be made, who is recorded as a maker, what
+//! a destroyed object keeps and what a reclaim asks for and leaves is worked here, since the rules can break it; all
+//! else is the model's.
 
-use super::rules::{Destroyed, Empty, Makers, Makes, Recorded, Rules, Weakening};
+use super::rules::{Destroyed, Empty, Joins, Left, Makers, Makes};
+use super::rules::{Reclaimable, Recorded, Rules, Weakening};
 use crate::copies::{landed_by, Copied};
 use crate::generate::numbers_where;
+use yavrinks_model::refusal::Refusal;
 use yavrinks_model::set;
 use yavrinks_model::step::{self, weaken, Request};
-use yavrinks_model::table::{Capability, Record, Table, NO_MAKER, OBJECTS, RD, UNBORN, WK};
+use yavrinks_model::table::{Capability, Record, Table, OBJECTS, RD, UNBORN, WK, WR};
 
 impl Weakening {
     fn of(self, found: Capability) -> Capability {
@@ -86,11 +89,18 @@ impl Rules {
             // nothing but the broken rule shows.
             self.move_into_stock(table, *actor, *n);
         }
-        let reply = step::step_in_place(table, request);
+        if let Request::Reclaim { actor, t } = request {
+            self.strengthen(table, *actor, *t);
+        }
+        let mut reply = step::step_in_place(table, request);
+        if reply == 0 && self.is_in_use(&before, request) {
+            reply = Refusal::TargetAlive.number();
+        }
         if reply == 0 {
             self.copy_anew(&before, table, request);
             self.keep_slots(&before, table, request);
             self.record_makers(&before, table, request);
+            self.leave_reclaimed(&before, table, request);
         } else {
             *table = before;
         }
@@ -130,15 +140,56 @@ impl Rules {
             (_, Request::Allocate { actor, n, .. }) => {
                 table.record_mut(*n).maker = self.recorded.maker(before, *actor);
             }
-            (Makers::GoWithMaker, Request::Destroy { actor, t }) => {
-                let gone = target_of(before, *actor, *t);
-                let made = table.records.iter_mut().filter(|one| one.maker == gone);
-                made.for_each(|record| record.maker = NO_MAKER);
-            }
             (Makers::TakenByReader, Request::Read { actor, t }) => {
                 table.record_mut(target_of(before, *actor, *t)).maker = *actor;
             }
             _ => {}
+        }
+    }
+
+    /// Gives wr to a slot that is enough for a reclaim by these rules. The model's reclaim then empties it.
+    fn strengthen(&self, table: &mut Table, actor: u8, t: u8) {
+        let record = table.records.get_mut(usize::from(actor));
+        let used = record.and_then(|record| record.slots.get_mut(usize::from(t)));
+        if let (Reclaimable::ByWrOrWk, Some(used)) = (self.reclaimable, used) {
+            if used.has_any(WK) {
+                used.rights |= WR;
+            }
+        }
+    }
+
+    /// Whether a reclaim is refused by these rules though the model does it.
+    fn is_in_use(&self, before: &Table, request: &Request) -> bool {
+        let Request::Reclaim { actor, t } = request else {
+            return false;
+        };
+        let used = before.record(*actor).slots[usize::from(*t)];
+        match self.reclaimable {
+            Reclaimable::ByWr | Reclaimable::ByWrOrWk => false,
+            Reclaimable::UnlessHeld => is_shared(before, *actor, used),
+            Reclaimable::UnlessMaker => before.records.iter().any(|one| one.maker == used.target),
+        }
+    }
+
+    /// Gives back what a reclaim leaves by these rules, and the number to whom it belongs.
+    fn leave_reclaimed(&self, before: &Table, table: &mut Table, request: &Request) {
+        let Request::Reclaim { actor, t } = request else {
+            return;
+        };
+        let gone = target_of(before, *actor, *t);
+        for n in (0..OBJECTS as u8).filter(|&n| n != gone) {
+            let (old, record) = (before.record(n), table.record_mut(n));
+            match self.left {
+                Left::Capabilities if n != *actor => record.slots = old.slots,
+                Left::Makers => record.maker = old.maker,
+                _ => {}
+            }
+        }
+        let maker = before.record(gone).maker;
+        let returns = self.joins == Joins::ItsMaker && usize::from(maker) < OBJECTS;
+        if returns && table.record(maker).is_alive() {
+            table.record_mut(*actor).stock &= !set::single(gone);
+            table.record_mut(maker).stock |= set::single(gone);
         }
     }
 

@@ -81,10 +81,29 @@ impl EmptyCopies {
     }
 }
 
-/// Requests by actor and code. The codes are 1 to 8; at 0 stand all others.
+/// Numbers that were made anew after a reclaim, by who made them.
+#[derive(Clone, Copy, Debug, Default, PartialEq, Eq)]
+pub struct Anew {
+    /// By the object that reclaimed them.
+    pub by_same: u64,
+    /// By another.
+    pub by_another: u64,
+    /// Those that were clean before and are not now, or the other way round.
+    pub crossed: u64,
+}
+
+impl Anew {
+    fn add(&mut self, more: Anew) {
+        self.by_same += more.by_same;
+        self.by_another += more.by_another;
+        self.crossed += more.crossed;
+    }
+}
+
+/// Requests by actor and code. The codes are 1 to 9; at 0 stand all others.
 #[derive(Clone, Debug, Default, PartialEq, Eq)]
 pub struct Tally {
-    counts: [[Count; 9]; 6],
+    counts: [[Count; 10]; 6],
     /// Requests that others got done through a capability over a clean object.
     pub of_clean_by_others: u64,
     /// Among these, what members got done through wk alone that they held unlisted at the start.
@@ -92,6 +111,14 @@ pub struct Tally {
     pub unlisted_fetches: u64,
     pub empty_by_clean: EmptyCopies,
     pub empty_by_others: EmptyCopies,
+    /// Reclaims of a number over which another object held a capability.
+    pub reclaimed_held: u64,
+    /// Those where an object of the other side did, clean or not.
+    pub reclaimed_held_across: u64,
+    /// Reclaims that took a maker byte from a clean object.
+    pub makers_taken: u64,
+    pub anew_by_clean: Anew,
+    pub anew_by_others: Anew,
 }
 
 fn row_of(code: u8) -> usize {
@@ -115,6 +142,34 @@ impl Tally {
         }
     }
 
+    /// Counts a reclaim of a number that was done on this table.
+    pub fn count_reclaim(&mut self, before: &Table, actor: u8, target: u8, clean: u64) {
+        let holds = |&n: &u8| {
+            let mut held = before.record(n).capabilities();
+            n != actor && held.any(|held| held.target == target)
+        };
+        let side = |n: u8| set::contains(clean, n);
+        let mut holders = (0..64).filter(holds).peekable();
+        self.reclaimed_held += u64::from(holders.peek().is_some());
+        self.reclaimed_held_across += u64::from(holders.any(|n| side(n) != side(actor)));
+        let mut of_clean = set::numbers(clean).map(|n| before.record(n).maker);
+        self.makers_taken += u64::from(of_clean.any(|maker| maker == target));
+    }
+
+    /// Counts a number that is made anew: whether its maker is clean, reclaimed it itself, and whether it was clean
+    /// before.
+    pub fn count_anew(&mut self, by_clean: bool, by_same: bool, was_clean: bool) {
+        let anew = match by_clean {
+            true => &mut self.anew_by_clean,
+            false => &mut self.anew_by_others,
+        };
+        anew.add(Anew {
+            by_same: u64::from(by_same),
+            by_another: u64::from(!by_same),
+            crossed: u64::from(by_clean != was_clean),
+        });
+    }
+
     /// Adds the counts of another tally.
     pub fn add(&mut self, other: &Tally) {
         self.of_clean_by_others += other.of_clean_by_others;
@@ -122,6 +177,11 @@ impl Tally {
         self.unlisted_fetches += other.unlisted_fetches;
         self.empty_by_clean.add(other.empty_by_clean);
         self.empty_by_others.add(other.empty_by_others);
+        self.reclaimed_held += other.reclaimed_held;
+        self.reclaimed_held_across += other.reclaimed_held_across;
+        self.makers_taken += other.makers_taken;
+        self.anew_by_clean.add(other.anew_by_clean);
+        self.anew_by_others.add(other.anew_by_others);
         let own = self.counts.iter_mut().flatten();
         for (count, more) in own.zip(other.counts.iter().flatten()) {
             count.add(*more);

@@ -2,12 +2,13 @@
 
 use super::requests::{clean_request, other_request};
 use super::rules::Rules;
-use super::runs::{Difference, Move, Run, Start, TwoRuns};
+use super::runs::{Difference, Move, Start, TwoRuns};
 use super::start::draw_start;
 use super::tally::{Actor, Tally};
 use crate::progress::Progress;
 use crate::rng::Rng;
 use yavrinks_model::set;
+use yavrinks_model::step::Code;
 use yavrinks_model::table::NO_MAKER;
 
 /// A pair of runs that breaks the claim.
@@ -46,6 +47,14 @@ pub struct Trial {
     pub made_by_others: u64,
     /// Those whose maker is dead in one of the runs and not in the other.
     pub maker_dead_in_one: u64,
+    /// Clean objects at the end whose maker is compared, and among them those that have one.
+    pub makers_compared: u64,
+    pub makers_compared_with: u64,
+    /// Clean objects at the end whose maker is left out, and among them those where it differs.
+    pub makers_left_out: u64,
+    pub makers_that_differ: u64,
+    /// Pairs where others reclaimed a number in one of the runs and not in the other.
+    pub reclaimed_in_one: u64,
     pub found: Option<Case>,
 }
 
@@ -79,7 +88,7 @@ impl Trial {
         self.count_unlisted(runs);
         self.count_empty(runs);
         for n in set::numbers(runs.first.clean) {
-            let at_start = drawn.start.first.is_born(n);
+            let at_start = drawn.start.first.is_born(n) && !runs.first.is_made_anew(n);
             self.clean_at_start += u64::from(at_start);
             self.made_clean += u64::from(!at_start);
             self.count_maker(runs, n);
@@ -88,9 +97,16 @@ impl Trial {
         self.tally.add(&runs.second.tally);
     }
 
-    /// Counts a clean object, which has the same record in both runs, by its maker.
+    /// Counts a clean object by its maker in the first run.
     fn count_maker(&mut self, runs: &TwoRuns, n: u8) {
-        let maker = runs.first.table.record(n).maker;
+        let [maker, in_second] = [&runs.first, &runs.second].map(|run| run.table.record(n).maker);
+        if set::contains(runs.first.compared, n) {
+            self.makers_compared += 1;
+            self.makers_compared_with += u64::from(maker != NO_MAKER);
+        } else {
+            self.makers_left_out += 1;
+            self.makers_that_differ += u64::from(maker != in_second);
+        }
         if maker == NO_MAKER {
             return;
         }
@@ -105,7 +121,7 @@ impl Trial {
 
     fn count_unlisted(&mut self, runs: &TwoRuns) {
         let both = [&runs.first, &runs.second];
-        let held = both.map(Run::has_unlisted_wk);
+        let held = both.map(|run| run.has_unlisted_wk);
         self.unlisted_in_one += u64::from(held[0] != held[1]);
         self.unlisted_in_both += u64::from(held[0] && held[1]);
         let used = both.map(|run| run.tally.used_unlisted());
@@ -116,6 +132,8 @@ impl Trial {
         let both = [&runs.first, &runs.second];
         let some = both.map(|run| run.tally.empty_by_others.all != 0);
         self.empty_in_one += u64::from(some[0] != some[1]);
+        let some = both.map(|run| run.tally.by_code(Code::Reclaim.number()).1.done != 0);
+        self.reclaimed_in_one += u64::from(some[0] != some[1]);
     }
 }
 

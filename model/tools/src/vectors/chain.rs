@@ -51,7 +51,8 @@ fn next_request(rng: &mut Rng, table: &Table) -> Request {
         let kept = match request.code() {
             _ if reply != 0 => 10,
             7 => 20,
-            8 => 9,
+            8 => 12,
+            9 => 70,
             _ if held_rights(&after) < held_rights(table) => 20,
             _ => 100,
         };

@@ -60,7 +60,10 @@ pub fn request(rng: &mut Rng, request: &Request) -> Vec<u8> {
             put(&mut bytes, PART_AT, &part.to_be_bytes());
             put_list(&mut bytes, LIST_AT, list, MAX_PAIRS);
         }
-        Request::Read { .. } | Request::Destroy { .. } | Request::Unknown { .. } => {}
+        Request::Read { .. }
+        | Request::Destroy { .. }
+        | Request::Reclaim { .. }
+        | Request::Unknown { .. } => {}
     }
     bytes
 }

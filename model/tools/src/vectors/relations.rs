@@ -24,7 +24,7 @@ pub fn access_cases() -> Vec<Table> {
             tables.push(sound_table(&mut rng, &shape));
         }
     }
-    tables.extend((0..26).map(|_| any_sound_table(&mut rng)));
+    tables.extend((0..18).map(|_| any_sound_table(&mut rng)));
     for _ in 0..8 {
         let mut table = any_sound_table(&mut rng);
         any_damage(&mut rng, &mut table);

@@ -15,14 +15,14 @@ const CELLS: usize = 63;
 
 /// How often each answer is aimed at.
 const AIMS: [(u8, usize); 8] = [
-    (0, 46),
+    (0, 36),
     (1, 11),
     (10, 11),
     (11, 11),
     (12, 11),
     (13, 11),
-    (18, 26),
-    (19, 20),
+    (18, 24),
+    (19, 18),
 ];
 
 /// The layers of long and of branching tests, each made twice.

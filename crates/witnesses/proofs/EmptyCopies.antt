@@ -19,10 +19,10 @@ use Rattle.copies.specs.Copies.{fetched, landed}
 use Rattle.steps.specs.Steps.{after, runTable}
 use Rattle.steps.specs.Exactness.{EmptyFetchKeeps, WeakenedFetchKeeps}
 use Rattle.steps.proofs.Emptying.{empty-fetch-keeps, weakened-fetch-keeps}
 use Rattle.isolation.specs.Clean.{cleanAtStart, cleanAfter, cleanRequests, cleanReplies}
 use Rattle.isolation.specs.Demand.{Alike, TwoRuns}
 use Rattle.isolation.proofs.TwoRuns.{two-runs}
-use Rattle.isolation.proofs.Witness.{alive, over, base, other, members, list, both, C, D}
+use Rattle.witnesses.proofs.Witness.{alive, over, base, other, members, list, both, C, D}
 
 -- 0 fetches 1's empty slot 2 onto its slot 0, over 1; it writes 1 through it
 unfoldable pub kept-left : List Ask

@@ -28,10 +28,10 @@ use Rattle.refusals.specs.Refusals as Refusals
 use Rattle.effects.specs.Effects.{stockLess, allocated, effect}
 use Rattle.copies.specs.Copies.{landed, copyPairs}
 use Rattle.steps.specs.Steps.{after, runTable}
 use Rattle.isolation.specs.Clean.{Clean, cleanAtStart, cleanAfter, cleanRequests}
 use Rattle.isolation.specs.Demand.{Alike, BothAccepted, TwoRuns}
 use Rattle.isolation.proofs.TwoRuns.{two-runs}
-use Rattle.isolation.proofs.Witness.{recordFits, slotFits, value-of, alive, over, base, other, members, list, left-list, right-list, other-value, apart, D, asked, right-asked}
+use Rattle.witnesses.proofs.Witness.{recordFits, slotFits, value-of, alive, over, base, other, members, list, left-list, right-list, other-value, apart, D, asked, right-asked}
 
 -- the table on the left: the member holds nothing over 1
 pub blind : Table

@@ -32,9 +32,9 @@ use Rattle.refusals.specs.Refusals as Refusals
 use Rattle.effects.specs.Effects.{stockLess, allocated, effect}
 use Rattle.copies.specs.Copies.{landed, copyPairs}
 use Rattle.steps.specs.Steps.{after, runTable}
-use Rattle.isolation.specs.Clean.{Clean, cleanAtStart, cleanAfter, cleanAtEnd, cleanRequests, cleanReplies}
-use Rattle.isolation.specs.Demand.{Alike, BothAccepted, TwoRuns, SameMakers}
-use Rattle.isolation.proofs.TwoRuns.{two-runs, same-makers}
+use Rattle.isolation.specs.Clean.{Clean, cleanAtStart, cleanAfter, cleanAtEnd, cleanRequests, cleanReplies, comparedAtStart, comparedAfter, comparedAtEnd}
+use Rattle.isolation.specs.Demand.{Alike, BothAccepted, TwoRuns, MakersAgree}
+use Rattle.isolation.proofs.TwoRuns.{two-runs}
 
 -- a value of the table type, by trying every record and slot ------------------------
 unfoldable pub recordFits : Record → Bool
@@ -197,6 +197,10 @@ pub maker-left : makerAt (runTable base left-list) 8 ≡ 0
 unfolding left-list base alive over bits allBelow anyBelow lessOf excluding subsetOf stockSound soundAt sound Refusals.badSlots Refusals.badList Refusals.badField Rights.rows Rights.worthOf Rights.needMet Refusals.through Refusals.throughSlot Refusals.notInStock Refusals.laterRows Refusals.refusal landed copyPairs stockLess allocated effect after runTable
 maker-left = refl
 
+new-compared : comparedAtEnd base C (comparedAtStart base C) left-list 8 ≡ true
+unfolding left-list base members list alive over bits allBelow anyBelow lessOf excluding subsetOf stockSound soundAt sound takesPart holdsIn grow spread only reached bothTakePart holdsStrong link influencedSet listed lowestFrom standIn testNode testHeld boundOf cleanAtStart cleanAfter comparedAtStart comparedAfter comparedAtEnd Refusals.badSlots Refusals.badList Refusals.badField Rights.rows Rights.worthOf Rights.needMet Refusals.through Refusals.throughSlot Refusals.notInStock Refusals.laterRows Refusals.refusal landed copyPairs stockLess allocated effect after
+new-compared = refl
+
 pub maker-right : makerAt (runTable other right-list) 8 ≡ 0
-unfolding SameMakers
-maker-right = sym (same-makers base other members list both left-list right-list (left-asked ∙ sym right-asked) 8 new-clean) ∙ maker-left
+unfolding MakersAgree
+maker-right = sym (witnessed .makers 8 new-clean new-compared) ∙ maker-left

@@ -1,0 +1,2 @@
+-- What a reclaim takes out of the whole table.
+pub mod Forgetting

@@ -1,0 +1,2 @@
+-- What the look at a reply's number needs.
+pub mod Places

@@ -1,0 +1,4 @@
+pub mod Witness
+pub mod Unlisted
+pub mod EmptyCopies
+pub mod Reclaiming
