@@ -1,6 +1,7 @@
 -- `reclaim` is its step: what the check of its slot saw decides, with a dead target wanted, and the effect is what `reclaimed` ensures. By the
 -- laws of a request through a slot. Assumes nothing.
 use mathlib.Core.Path.{refl}
+use native.Mathlib.Omega.{arith}
 use borrow.Author.Tests.{not-false}
 use Rattle.refusals.specs.declared.Reply.the-variants.{Done}
 use Rattle.effects.specs.Effects.{effect, reclaimed}
@@ -18,7 +19,8 @@ returns c = through-refused (λ g. Done) (c .before .before .before .pre) reclai
 
 reclaimed-requires : tie.Need-reclaimed-requires
 reclaimed-requires c κs = let v = c .before .before .check-slot in
-    let d = not-false (v .result .done) (c .if1 .left) in (v .ensures .actor d, v .ensures .within d)
+    let d = not-false (v .result .done) (c .if1 .left) in
+    (omega (arith, v .ensures .actor d, v .ensures .within d), omega (arith, v .ensures .actor d, v .ensures .within d))
 
 returns-2 : tie.Need-returns-2
 unfolding effect
