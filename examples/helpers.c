@@ -126,7 +126,9 @@ static void zeros(void)
     check(captable_step(&table, request, length) == CAPTABLE_TABLE_UNSOUND, "nor for a step");
     check(captable_step_by_value(table, request, length).number == CAPTABLE_TABLE_UNSOUND, "nor for one by value");
     check(captable_access(table).number == CAPTABLE_TABLE_UNSOUND, "nor for potential access");
+    check(captable_access_by_groups(table).number == CAPTABLE_TABLE_UNSOUND, "nor for the same by groups");
     check(captable_test(table, 1, NULL, 0).number == CAPTABLE_TABLE_UNSOUND, "nor for a test");
+    check(captable_test_by_groups(table, 1, NULL, 0).number == CAPTABLE_TABLE_UNSOUND, "nor for one by groups");
     check(captable_chain(table, 1, NULL, 0, 0).number == CAPTABLE_TABLE_UNSOUND, "nor for a chain");
     check(captable_write(table, image, sizeof image) == CAPTABLE_TABLE_UNSOUND, "nor for an image");
     check(captable_write_older(table, image, sizeof image) == CAPTABLE_TABLE_UNSOUND, "nor for the older form");
@@ -231,9 +233,42 @@ static void longest_import(void)
     check(captable_slot(&outcome.table, 63, 7).rights == 0, "a refusal leaves no capability");
 }
 
+/* Both ways give one answer. 0 has rd over 1 and 2 has wr over it: the three are a group. 3 has wk over 2. 4 is the
+ * member, and is named by nobody. */
+static void two_ways(void)
+{
+    static captable_table table;
+    static const uint8_t list[2] = {1, CAPTABLE_WR};
+    captable_relation rules, groups;
+    captable_finding test, found;
+    size_t n;
+
+    table = captable_unborn();
+    for (n = 0; n < 5; n++)
+        table.records[n].status = CAPTABLE_ALIVE;
+    captable_slot_at(&table, 0, 0)->target = 1;
+    captable_slot_at(&table, 0, 0)->rights = CAPTABLE_RD;
+    captable_slot_at(&table, 2, 7)->target = 1;
+    captable_slot_at(&table, 2, 7)->rights = CAPTABLE_WR;
+    captable_slot_at(&table, 3, 4)->target = 2;
+    captable_slot_at(&table, 3, 4)->rights = CAPTABLE_WK;
+    rules = captable_access(table);
+    groups = captable_access_by_groups(table);
+    check(groups.number == CAPTABLE_DONE && memcmp(rules.rows, groups.rows, sizeof rules.rows) == 0, "one answer");
+    check(groups.rows[0] == 7 && groups.rows[64 + 1] == 7 && groups.rows[192 + 2] == 7, "all rights over the group");
+    check(groups.rows[128 + 3] == 15 && groups.rows[3] == 8, "wk alone over another group");
+    test = captable_test(table, (uint64_t)1 << 4, list, sizeof list);
+    found = captable_test_by_groups(table, (uint64_t)1 << 4, list, sizeof list);
+    check(test.number == CAPTABLE_DONE && found.number == CAPTABLE_DONE, "the test is accepted both ways");
+    check(found.bound == 15 && found.rounds == 3, "the group, and 3, which reads it");
+    check(test.bound == found.bound && test.rounds == found.rounds, "one bound");
+    found = captable_test_by_groups(table, (uint64_t)1 << 5, list, sizeof list);
+    check(found.number == CAPTABLE_MEMBERS_INVALID && found.bound == 0 && found.rounds == 0, "and one refusal");
+}
+
 int main(void)
 {
-    check(CAPTABLE_VERSION == 0 * 65536 + 9 * 256 + 0, "the header's version is 0.9.0");
+    check(CAPTABLE_VERSION == 0 * 65536 + 10 * 256 + 0, "the header's version is 0.10.0");
     check(captable_version() == CAPTABLE_VERSION, "the archive has the header's version");
     reasons();
     numbers();
@@ -244,6 +279,7 @@ int main(void)
     requests();
     reclaims();
     longest_import();
+    two_ways();
     if (!wrong)
         printf("the header's own functions do what they say\n");
     return wrong;

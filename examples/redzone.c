@@ -59,9 +59,10 @@ static int keeps_below(int number)
 /* All that the calls answer. Tables are kept as their images, for the padding of a struct is anything. */
 struct answers {
     uint32_t version;
-    uint8_t numbers[20];
+    uint8_t numbers[22];
     uint64_t bound, rows[4 * CAPTABLE_OBJECTS];
-    uint8_t rounds, chain[CAPTABLE_LINKS];
+    uint64_t bound_by_groups, rows_by_groups[4 * CAPTABLE_OBJECTS];
+    uint8_t rounds, rounds_by_groups, chain[CAPTABLE_LINKS];
     uint8_t loaded[CAPTABLE_IMAGE_BYTES], after[CAPTABLE_IMAGE_BYTES], given[CAPTABLE_IMAGE_BYTES];
     uint8_t imported[CAPTABLE_IMAGE_BYTES], unborn[CAPTABLE_IMAGE_BYTES], older[CAPTABLE_OLDER_IMAGE_BYTES];
     uint8_t reclaimed[CAPTABLE_IMAGE_BYTES], again[CAPTABLE_IMAGE_BYTES];
@@ -98,6 +99,8 @@ static void ask(const uint8_t *input, size_t length, struct answers *out)
     captable_table after = loaded.table;
     captable_relation relation = captable_access(loaded.table);
     captable_finding finding = captable_test(loaded.table, (uint64_t)1 << 5, list, sizeof list);
+    captable_relation grouped = captable_access_by_groups(loaded.table);
+    captable_finding found = captable_test_by_groups(loaded.table, (uint64_t)1 << 5, list, sizeof list);
     captable_shown shown = captable_chain(loaded.table, (uint64_t)1 << 5, list, sizeof list, 2);
     captable_outcome imported = captable_import(older, sizeof older);
 
@@ -106,6 +109,9 @@ static void ask(const uint8_t *input, size_t length, struct answers *out)
     out->bound = finding.bound;
     out->rounds = finding.rounds;
     memcpy(out->rows, relation.rows, sizeof out->rows);
+    out->bound_by_groups = found.bound;
+    out->rounds_by_groups = found.rounds;
+    memcpy(out->rows_by_groups, grouped.rows, sizeof out->rows_by_groups);
     memcpy(out->chain, shown.numbers, sizeof out->chain);
     out->numbers[0] = loaded.number;
     out->numbers[1] = given.number;
@@ -122,15 +128,19 @@ static void ask(const uint8_t *input, size_t length, struct answers *out)
     out->numbers[12] = captable_write(captable_unborn(), out->unborn, sizeof out->unborn);
     out->numbers[13] = captable_write_older(loaded.table, out->older, sizeof out->older);
     out->numbers[14] = captable_read(out->after, sizeof out->after).number;
+    out->numbers[20] = grouped.number;
+    out->numbers[21] = found.number;
     reclaim(after, out);
 }
 
-/* Was every call done, and not merely refused twice? Of the test, 1 comes in round one, and 0 and 2 in round two. */
+/* Was every call done, and not merely refused twice? Of the test, 1 comes in round one, and 0 and 2 in round two; by
+ * groups all is the same. */
 static int all_done(const struct answers *a)
 {
     static const uint8_t done[sizeof a->numbers] = {CAPTABLE_DONE};
 
-    return a->version == CAPTABLE_VERSION && a->count != 0 && a->rounds == 2 &&
+    return a->version == CAPTABLE_VERSION && a->count != 0 && a->rounds == 2 && a->rounds_by_groups == 2 &&
+           a->bound_by_groups == a->bound && memcmp(a->rows_by_groups, a->rows, sizeof a->rows) == 0 &&
            memcmp(a->numbers, done, sizeof done) == 0;
 }
 

@@ -2,7 +2,7 @@
  * captable.h: the proved capability table for firmware in C and C++.
  *
  * The table is one fixed table of 64 objects with eight capabilities each. Its rules are document 01's,
- * with requests 2.1 to 2.8 of document 02, and every answer is a number of theirs: 0 for done, or why not
+ * with requests 2.1 to 2.9 of document 02, and every answer is a number of theirs: 0 for done, or why not
  * (enum captable_number).
  *
  * Link with libcaptable.a, which `rt staticlib captable` proves and writes. It needs memcpy and memset
@@ -68,9 +68,9 @@ extern "C" {
 
 /* ---- version -------------------------------------------------------------------------------------- */
 
-/* The version of the calls, 0.9.0: the first number times 65,536, the second times 256, and the third.
+/* The version of the calls, 0.10.0: the first number times 65,536, the second times 256, and the third.
  * captable_version gives that of the archive. Compare the two at start. */
-#define CAPTABLE_VERSION 2304
+#define CAPTABLE_VERSION 2560
 
 /* ---- sizes ---------------------------------------------------------------------------------------- */
 
@@ -106,7 +106,9 @@ extern "C" {
 #define CAPTABLE_STACK_STEP_BY_VALUE 10536
 #define CAPTABLE_STACK_SOUND 4200
 #define CAPTABLE_STACK_ACCESS 8328
+#define CAPTABLE_STACK_ACCESS_BY_GROUPS 12952
 #define CAPTABLE_STACK_TEST 8904
+#define CAPTABLE_STACK_TEST_BY_GROUPS 9432
 #define CAPTABLE_STACK_CHAIN 10552
 #define CAPTABLE_STACK_READ 11464
 #define CAPTABLE_STACK_IMPORT 7240
@@ -115,7 +117,7 @@ extern "C" {
 #define CAPTABLE_STACK_CONFINE 11544
 #define CAPTABLE_STACK_UNBORN 3112
 #define CAPTABLE_STACK_VERSION 8
-#define CAPTABLE_STACK_MOST 12616
+#define CAPTABLE_STACK_MOST 12952
 
 /* ---- values --------------------------------------------------------------------------------------- */
 
@@ -408,6 +410,17 @@ CAPTABLE_ANSWER captable_outcome captable_step_by_value(captable_table table, co
 CAPTABLE_ANSWER captable_relation captable_access(captable_table table);
 
 /*
+ * The same answer as that of captable_access, for every table, worked by groups. Objects that a held rd, wr or tx
+ * joins, in either direction and through others, are one group. An object has all four rights over its group, and wk
+ * alone over every born object outside of it from which links lead to it; captable_chain says what a link is, and here
+ * every capability that is held in the table gives one.
+ *
+ * Which of the two to take: by groups it is the shorter way on every table that was measured, many times so on a full
+ * one, and takes more stack. captable_access goes by document 01's rules one by one. Times are in docs/PERFORMANCE.md.
+ */
+CAPTABLE_ANSWER captable_relation captable_access_by_groups(captable_table table);
+
+/*
  * The confinement test: which objects can a set of members, bit n for object n, ever influence, if over
  * non-members they hold no more than the list has, wk alone not counted, and in how many rounds does that spread?
  * Each entry of the list is two bytes: target, rights. Bytes of odd length are no list and get 11.
@@ -424,6 +437,17 @@ CAPTABLE_ANSWER captable_relation captable_access(captable_table table);
  */
 CAPTABLE_ANSWER captable_finding captable_test(captable_table table, uint64_t members, const uint8_t *list,
                                                size_t length);
+
+/*
+ * The same answer as that of captable_test, for every input: the same bound, the same rounds, and the same refusals in
+ * the same order, with an empty bound. Its bound is worked by groups, as in captable_access_by_groups; the holders are
+ * the non-members and the stand-in, which is in the place of all members and holds exactly the list.
+ *
+ * Which of the two to take: by groups it is the shorter way for every test that was measured, and takes more stack.
+ * captable_test goes round by round over all that is there. Times are in docs/PERFORMANCE.md.
+ */
+CAPTABLE_ANSWER captable_finding captable_test_by_groups(captable_table table, uint64_t members, const uint8_t *list,
+                                                         size_t length);
 
 /*
  * Show me the chain: how does an object come to be in the bound of that test? The answer is a shortest chain

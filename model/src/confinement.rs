@@ -67,7 +67,7 @@ pub fn confinement_test(table: &Table, members: u64, list: &[Entry]) -> Tested {
 }
 
 /// The checks in number order.
-fn check(table: &Table, members: u64, list: &[Entry]) -> Result<(), Refusal> {
+pub(crate) fn check(table: &Table, members: u64, list: &[Entry]) -> Result<(), Refusal> {
     if !table.is_sound() {
         return Err(Refusal::TableNotSound);
     }

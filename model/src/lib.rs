@@ -30,8 +30,9 @@
 //! | 2.6 How many rounds | `rounds`: what is there after each round; `confinement` reports how many they are |
 //! | 2.7 Record who made it | `table`: the maker, a clause of soundness; `step`: who writes and keeps it; `image`: both versions; `confine`: version 1 alone |
 //! | 2.8 Use dead numbers again | `step`: reclaim, refusal 24; `wire`: its bytes; `runs`: clean by the latest making, the makers that equal records leave out |
+//! | 2.9 Work it out by groups | `groups`: groups, links to an object, potential access and the test by them |
 //!
-//! Beside these, `links` leads to the bound a second way, as the proved code has it too: what can be
+//! Beside these, `links` leads to the bound one more way, as the proved code has it too: what can be
 //! reached from the holder of the list, link by link, and in how many rounds. Of requests and lists as bytes document 01 says no
 //! more than the order of fields; `wire` has what crosses to C and Rust.
 
@@ -64,3 +65,5 @@ pub mod test_links;
 pub mod take_grant;
 
 pub mod rounds;
+
+pub mod groups;

@@ -27,7 +27,7 @@ pub fn links(table: &Table, members: u64, list: &[Entry]) -> Vec<Link> {
 }
 
 /// The links of one capability: rd, wr or tx taken either way, wk taken from target to holder.
-fn links_of(holder: u8, held: Capability) -> Vec<Link> {
+pub fn links_of(holder: u8, held: Capability) -> Vec<Link> {
     let mut links = Vec::new();
     if held.has_any(RD | WR | TX) {
         links.push((holder, held.target));

@@ -1,7 +1,8 @@
 //! The test vectors in `vectors/`: steps, potential access, tests, inputs of `confine`, chains, imports, rounds
 //! and images.
-//! Every line of every file is compared in full. Where a later request amends a line of the base or of an
-//! earlier request, the line is named here, and what it says now is worked in another way.
+//! Every line of every file is compared in full, potential access and tests by groups too. Where a later request
+//! amends a line of the base or of an earlier request, the line is named here, and what it says now is worked in
+//! another way.
 
 mod lines;
 
@@ -14,6 +15,7 @@ use yavrinks_model::access::{potential_access, Access};
 use yavrinks_model::chain::chain;
 use yavrinks_model::confine::confine;
 use yavrinks_model::confinement::{confinement_test, Tested};
+use yavrinks_model::groups::{access_by_groups, test_by_groups};
 use yavrinks_model::image::{read, write};
 use yavrinks_model::set;
 use yavrinks_model::step::{step, step_in_place, Request};
@@ -174,17 +176,21 @@ fn access() {
             }
         }
         let expected = (byte(field(&value, "number")), expected);
-        let outcome = potential_access(&table(field(&value, "table")));
-        assert_eq!(outcome, expected, "line {line}");
+        let table = table(field(&value, "table"));
+        assert_eq!(potential_access(&table), expected, "line {line}");
+        assert_eq!(access_by_groups(&table), expected, "line {line}");
     }
 }
 
 /// The lines of the base's tests that 2.3 amends. Each says 12, for capabilities with wk alone.
 const AMENDED_BY_2_3: [usize; 7] = [52, 88, 89, 124, 163, 166, 172];
 
-/// The answer that the test gives to a line.
+/// The answer that the test gives to a line, the same by groups.
 fn tested(line: &TestLine) -> Tested {
-    confinement_test(&line.table, line.members, &line.list)
+    let tested = confinement_test(&line.table, line.members, &line.list);
+    let by_groups = test_by_groups(&line.table, line.members, &line.list);
+    assert_eq!(by_groups, tested);
+    tested
 }
 
 /// Compares a file of tests, but for the lines that are amended: of these it gives number and content.

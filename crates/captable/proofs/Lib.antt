@@ -1,4 +1,5 @@
 -- What the proofs of the calls share.
+pub mod Answers
 pub mod Lies
 pub mod Values
 pub mod Written

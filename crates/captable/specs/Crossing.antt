@@ -20,9 +20,9 @@ use Rattle.captable.specs.declared.Relation.{Relation}
 use Rattle.captable.specs.declared.Finding.{Finding}
 use Rattle.captable.specs.declared.ShownChain.{ShownChain}
 
--- the version of the calls, 0.9.0: the first number times 65,536, the second times 256, the third
+-- the version of the calls, 0.10.0: the first number times 65,536, the second times 256, the third
 abbrev pub version : ℕ
-version = 2304
+version = 2560
 
 abbrev pub soundNumber : Table → ℕ
 soundNumber t = cond (sound t) 0 1

@@ -58,7 +58,7 @@ pub struct ShownChain {
 pub extern "C" fn captable_version() -> u32
     ensures { λ r. ⌜ r ≡ version ⌝ }
 {
-    2304
+    2560
 }
 
 // The wholly unborn table: every record unborn, with the maker 64. A table of zeros is not it.
@@ -138,6 +138,21 @@ pub extern "C" fn captable_access(table: Table) -> Relation
     }
 }
 
+// The same answer, worked by groups (document 02, 2.9).
+#[no_mangle]
+pub extern "C" fn captable_access_by_groups(table: Table) -> Relation
+    ensures { λ r. ⌜ r ≡ related (accessOf table) ⌝ }
+{
+    let worked = groups::potential_access(table);
+    let reply = worked.reply;
+    let words = worked.rows;
+    let number = numbers::of_access(reply);
+    Relation {
+        rows: words,
+        number: number,
+    }
+}
+
 // The confinement test of a set of members and a list, two bytes for each entry: target, rights.
 #[no_mangle]
 pub extern "C" fn captable_test(table: Table, members: u64, list: &[u8]) -> Finding
@@ -150,6 +165,22 @@ pub extern "C" fn captable_test(table: Table, members: u64, list: &[u8]) -> Find
     Finding {
         bound: tested.bound,
         rounds: tested.rounds,
+        number: number,
+    }
+}
+
+// The same answer, worked by groups (document 02, 2.9).
+#[no_mangle]
+pub extern "C" fn captable_test_by_groups(table: Table, members: u64, list: &[u8]) -> Finding
+    ensures { λ r. ⌜ r ≡ found (testOf table members (entriesIn (now (list .entry)))) ⌝ }
+{
+    let entries = entries::list_of(list);
+    let worked = group_tests::test(table, members, entries);
+    let verdict = worked.verdict;
+    let number = numbers::of_verdict(verdict);
+    Finding {
+        bound: worked.bound,
+        rounds: worked.rounds,
         number: number,
     }
 }

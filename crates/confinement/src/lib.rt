@@ -26,7 +26,7 @@ pub struct Tested {
 }
 
 // A refusal, with an empty bound and no round.
-fn refused(why: Verdict) -> Tested
+pub fn refused(why: Verdict) -> Tested
     ensures { λ r. ⌜ r ≡ refusedTest why ⌝ }
 {
     Tested {

@@ -39,7 +39,7 @@ module _ (slots : List Capability) (among : ℕ) where
   abbrev table : Table
   table = record { records = []; slots = slots }
 
-  slot-among : Among (slotHolding slots among)
+  pub slot-among : Among (slotHolding slots among)
   unfolding slotHeld
   slot-among b x y e = let p = and-true (has x among) _ e in (p .0, and-true (has y among) _ (p .1) .0)
 
@@ -116,7 +116,7 @@ entries-join slots among entries n x = words-same _ _ (λ u v hu hv.
     ∙ more-link entries n among x slots u v)
 
 -- a table ---------------------------------------------------------------------------------------
-born-part : (t : Table) (n : ℕ) → has n (bornOutside (t .records) 0) ≡ takesPart t n
+pub born-part : (t : Table) (n : ℕ) → has n (bornOutside (t .records) 0) ≡ takesPart t n
 born-part t n = bool-ext _ _ (λ e. outside-facts t 0 n e .0) (λ e. outside-intro t 0 n e (has-zero n))
 
 -- The theorem of a table. In plain words: the words of a table's slots between born numbers are the words of the table, sound or not

@@ -17,15 +17,15 @@ use Rattle.mask.proofs.Bits.{bits-same}
 use Rattle.table.specs.declared.Capability.{Capability}
 use Rattle.table.specs.Cells.{hasWk}
 use Rattle.table.proofs.Lists.{length-tabulate, getD-tabulate, as-tabulate}
-use Rattle.links.specs.Links.{hasStrong, capabilityLink}
+use Rattle.links.specs.Links.{wordsOf, hasStrong, capabilityLink}
 use Rattle.links.specs.Helpers.{edgeIf, linkIf}
-use Rattle.links.proofs.Edges.{wordsOf, words-edge, words-same}
+use Rattle.links.proofs.Edges.{words-edge, words-same}
 
 -- the edge from u to v, where it is wanted
-abbrev one : Bool → ℕ → ℕ → ℕ → ℕ → Bool
+abbrev pub one : Bool → ℕ → ℕ → ℕ → ℕ → Bool
 one on u v a b = on && (eqb a u && eqb b v)
 
-edge-more : (e : ℕ → ℕ → Bool) (on : Bool) (u v : ℕ) → (on ≡ true → (u < 64) × (v < 64))
+pub edge-more : (e : ℕ → ℕ → Bool) (on : Bool) (u v : ℕ) → (on ≡ true → (u < 64) × (v < 64))
     → edgeIf on (wordsOf e) u v ≡ wordsOf (λ a b. e a b || one on u v a b)
 unfolding edgeIf including
 edge-more e false u v low = words-same _ _ (λ a b ha hb. sym (or-false (e a b)))

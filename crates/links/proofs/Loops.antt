@@ -12,9 +12,9 @@ use Rattle.table.specs.Cells.{slotOf}
 use Rattle.table.specs.declared.Capability.{Capability}
 use Rattle.table.specs.Lists.{tabulate}
 use Rattle.access.proofs.Marks.{has-low}
-use Rattle.links.specs.Links.{linkWords, wordEdge, slotHolding, joined, entryLink}
+use Rattle.links.specs.Links.{wordsOf, linkWords, wordEdge, slotHolding, joined, entryLink}
 use Rattle.links.specs.Helpers.{linkIf}
-use Rattle.links.proofs.Edges.{wordsOf, words-same}
+use Rattle.links.proofs.Edges.{words-same}
 use Rattle.links.proofs.Joins.{linkedTo, linked-none, linked-more}
 use Rattle.links.proofs.Holdings.{inside, listed, slot-link}
 

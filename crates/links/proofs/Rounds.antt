@@ -27,6 +27,10 @@ module _ (e f : ℕ → ℕ → Bool) (same : (x y : ℕ) → x < 64 → y < 64 
       ap (λ (m : ℕ). elim (eqb m s) as (λ b. ℕ) [ true ↦ s | false ↦ spread n e m ]) (grow-same s)
       ∙ ap (λ (m : ℕ). elim (eqb (grow f s) s) as (λ b. ℕ) [ true ↦ s | false ↦ m ]) (spread-same n (grow f s))
 
+  pub reached-same : (x : ℕ) → reached e x ≡ reached f x
+  unfolding reached
+  reached-same x = spread-same mostRounds (only x)
+
   adding-same : (n s r : ℕ) → addingFrom n e s r ≡ addingFrom n f s r
   unfolding addingFrom
   adding-same zero s r = refl
@@ -39,8 +43,7 @@ pub round-links : (h : Holding) (s : ℕ) → grow (wordEdge (linkWords h)) s �
 round-links h = grow-same (wordEdge (linkWords h)) (link h) (links-are-edges h)
 
 pub reach-links : (h : Holding) (x : ℕ) → reached (wordEdge (linkWords h)) x ≡ reached (link h) x
-unfolding reached
-reach-links h x = spread-same (wordEdge (linkWords h)) (link h) (links-are-edges h) mostRounds (only x)
+reach-links h = reached-same (wordEdge (linkWords h)) (link h) (links-are-edges h)
 
 pub spread-links : (h : Holding) (x : ℕ) → spreadOf (wordEdge (linkWords h)) x ≡ spreadOf (link h) x
 unfolding spreadOf

@@ -10,8 +10,8 @@ use denote.Array.{Array, each}
 use denote.Builtin.{u64}
 use denote.Laws.{Is}
 use denote.Shadow.{shadow}
-use Rattle.links.specs.Links.{wordEdge}
-use Rattle.links.proofs.Edges.{wordsOf, as-words}
+use Rattle.links.specs.Links.{wordsOf, wordEdge}
+use Rattle.links.proofs.Edges.{as-words}
 
 each-low : (words : List ℕ) (vs : List Val) → shadow (each ℕ (u64 .own) words vs) → (u : ℕ) → getD words u 0 < 2 ^ 64
 each-low [] vs is u = omega arith

@@ -12,9 +12,13 @@ use Rattle.table.specs.Cells.{slotOf, hasRd, hasWr, hasWk, hasTx}
 use Rattle.relation.specs.Relation.{Right, bitAt, Holding}
 use Rattle.relation.specs.Closure.{link}
 
+-- the words with these edges
+abbrev pub wordsOf : (ℕ → ℕ → Bool) → List ℕ
+wordsOf edge = tabulate 64 (λ u. bits 64 (edge u))
+
 -- word x: the numbers one link from x
 unfoldable pub linkWords : Holding → List ℕ
-linkWords h = tabulate 64 (λ x. bits 64 (link h x))
+linkWords h = wordsOf (link h)
 
 -- an edge between numbers, as words have it
 abbrev pub wordEdge : List ℕ → ℕ → ℕ → Bool

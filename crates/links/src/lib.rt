@@ -16,7 +16,7 @@ pub struct Spread {
 }
 
 // Is rd, wr or tx among the rights?
-fn has_strong(rights: u8) -> bool
+pub fn has_strong(rights: u8) -> bool
     ensures { λ r. ⌜ r ≡ hasStrong rights ⌝ }
 {
     let set = rights as u64;
@@ -24,7 +24,7 @@ fn has_strong(rights: u8) -> bool
 }
 
 // v is one link from u, where that is wanted.
-fn join(words: &mut [u64; 64], on: bool, u: u8, v: u8)
+pub fn join(words: &mut [u64; 64], on: bool, u: u8, v: u8)
     requires { ⌜ (on ≡ true → (u < 64) × (v < 64)) ⌝ }
     ensures { λ z. ⌜ now (words .exit) ≡ edgeIf on (now (words .entry)) u v ⌝ }
 {

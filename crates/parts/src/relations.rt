@@ -1,10 +1,10 @@
-// Potential access. A case is the 1,984 bytes of a table.
+// Potential access, by the rules and by groups. A case is the 1,984 bytes of a table.
 use crate::output;
+use access::Access;
 use cases::digest;
 use cases::input;
 
-fn answer(number: u64, s: &[u8]) {
-    let found = access::potential_access(input::raw_table(s));
+fn answer(number: u64, found: Access) {
     let reply = found.reply;
     let rows = found.rows;
     output::number(number);
@@ -13,12 +13,17 @@ fn answer(number: u64, s: &[u8]) {
     output::text(b"\n");
 }
 
-pub fn case(fd: i32, number: u64) -> bool {
+pub fn case(fd: i32, number: u64, by_groups: bool) -> bool {
     let mut bytes = [0u8; 1984];
     let got = io::read_full(fd, &mut bytes);
     if got < 1984 {
         return false;
     }
-    answer(number, &bytes);
+    let t = input::raw_table(&bytes);
+    if by_groups {
+        answer(number, groups::potential_access(t));
+    } else {
+        answer(number, access::potential_access(t));
+    }
     true
 }

@@ -28,7 +28,7 @@ isStrong tx = true
 
 module _ (h : Holding) where
   -- what an edge is ----------------------------------------------------------------
-  part-facts : (x y : ℕ) → bothTakePart h x y ≡ true → (h .node x ≡ true) × (h .node y ≡ true)
+  pub part-facts : (x y : ℕ) → bothTakePart h x y ≡ true → (h .node x ≡ true) × (h .node y ≡ true)
   unfolding bothTakePart
   part-facts x y e = and-true _ _ e
 
@@ -36,15 +36,15 @@ module _ (h : Holding) where
   unfolding bothTakePart
   part-intro x y p q = and-intro _ _ p q
 
-  bond-part : (x y : ℕ) → bond h x y ≡ true → bothTakePart h x y ≡ true
+  pub bond-part : (x y : ℕ) → bond h x y ≡ true → bothTakePart h x y ≡ true
   unfolding bond
   bond-part x y e = and-true (bothTakePart h x y) _ e .0
 
-  link-part : (x y : ℕ) → link h x y ≡ true → bothTakePart h x y ≡ true
+  pub link-part : (x y : ℕ) → link h x y ≡ true → bothTakePart h x y ≡ true
   unfolding link
   link-part x y e = and-true (bothTakePart h x y) _ e .0
 
-  bond-sym : (x y : ℕ) → bond h x y ≡ true → bond h y x ≡ true
+  pub bond-sym : (x y : ℕ) → bond h x y ≡ true → bond h y x ≡ true
   unfolding bond
   bond-sym x y e =
       let p = and-true (bothTakePart h x y) (holdsStrong h x y || holdsStrong h y x) e in
@@ -56,6 +56,10 @@ module _ (h : Holding) where
   bond-link x y e =
       let p = and-true (bothTakePart h x y) (holdsStrong h x y || holdsStrong h y x) e in
       and-intro _ _ (p .0) (or-left (holdsStrong h x y || holdsStrong h y x) _ (p .1))
+
+  pub bond-of : (x y : ℕ) → bothTakePart h x y ≡ true → (holdsStrong h x y || holdsStrong h y x) ≡ true → bond h x y ≡ true
+  unfolding bond
+  bond-of x y p e = and-intro _ _ p e
 
   strong-held : (b : Right) (x y : ℕ) → isStrong b ≡ true → h .held b x y ≡ true → holdsStrong h x y ≡ true
   unfolding holdsStrong
@@ -125,7 +129,7 @@ module _ (h : Holding) where
   bonds-sym stay = stay
   bonds-sym (step {y = w} p e) = join (step stay (bond-sym w _ e)) (bonds-sym p)
 
-  bonds-back : {x y : ℕ} → Path (bond h) x y → Path (linkBack h) x y
+  pub bonds-back : {x y : ℕ} → Path (bond h) x y → Path (linkBack h) x y
   bonds-back stay = stay
   bonds-back (step {y = w} {z = y} p e) = step (bonds-back p) (bond-link y w (bond-sym w y e))
 
@@ -178,7 +182,7 @@ module _ (h : Holding) where
     part-low : (x y : ℕ) → bothTakePart h x y ≡ true → (x < 64) × (y < 64)
     part-low x y e = let q = part-facts x y e in (low x (q .0), low y (q .1))
 
-    edge-low : (b : Right) (x y : ℕ) → edgeOf h b x y ≡ true → (x < 64) × (y < 64)
+    pub edge-low : (b : Right) (x y : ℕ) → edgeOf h b x y ≡ true → (x < 64) × (y < 64)
     edge-low rd x y e = part-low x y (bond-part x y e)
     edge-low wr x y e = part-low x y (bond-part x y e)
     edge-low wk x y e = let p = part-low y x (link-part y x e) in (p .1, p .0)

@@ -53,7 +53,7 @@ unfolding count
 count-le zero s t f = omega arith
 count-le (suc n) s t f = omega (arith, count-le n s t (λ k h. f k (omega arith)), count-bit (has n s) (has n t) (f n (omega arith)))
 
-count-lt : (n s t j : ℕ) → ((k : ℕ) → k < n → has k s ≡ true → has k t ≡ true) → j < n → has j s ≡ false → has j t ≡ true → count n s < count n t
+pub count-lt : (n s t j : ℕ) → ((k : ℕ) → k < n → has k s ≡ true → has k t ≡ true) → j < n → has j s ≡ false → has j t ≡ true → count n s < count n t
 unfolding count
 count-lt zero s t j f h a b = absurd (omega arith)
 count-lt (suc n) s t j f h a b = byEq j n

@@ -20,7 +20,9 @@ enum Part {
     Chain,
     Lent,
     Tests,
+    GroupTests,
     Relations,
+    GroupRelations,
     Links,
     Shown,
     Imports,
@@ -34,8 +36,10 @@ fn turn(part: Part, fd: i32, number: u64, t: table::Table) -> Turn {
         Part::Steps => turns::kept(turns::case(fd, number), t),
         Part::Chain => turns::link(fd, number, t, false),
         Part::Lent => turns::link(fd, number, t, true),
-        Part::Tests => turns::kept(verdicts::case(fd, number), t),
-        Part::Relations => turns::kept(relations::case(fd, number), t),
+        Part::Tests => turns::kept(verdicts::case(fd, number, false), t),
+        Part::GroupTests => turns::kept(verdicts::case(fd, number, true), t),
+        Part::Relations => turns::kept(relations::case(fd, number, false), t),
+        Part::GroupRelations => turns::kept(relations::case(fd, number, true), t),
         Part::Links => turns::kept(linked::case(fd, number), t),
         Part::Shown => turns::kept(shown::case(fd, number), t),
         Part::Imports => turns::kept(imports::case(fd, number), t),
@@ -67,7 +71,9 @@ fn start(part: Part, fd: i32) -> table::Table {
         | Part::Writes
         | Part::Steps
         | Part::Tests
+        | Part::GroupTests
         | Part::Relations
+        | Part::GroupRelations
         | Part::Links
         | Part::Shown
         | Part::Imports => table::unborn_table(),
@@ -121,9 +127,19 @@ fn main() {
         b"confinement tests: case, number, rounds, bound\n",
     );
     run(
+        Part::GroupTests,
+        b"tests",
+        b"the same by groups: case, number, rounds, bound\n",
+    );
+    run(
         Part::Relations,
         b"access",
         b"potential access: case, number, relation\n",
+    );
+    run(
+        Part::GroupRelations,
+        b"access",
+        b"the same by groups: case, number, relation\n",
     );
     run(
         Part::Links,

@@ -6,15 +6,17 @@
 
 use captable::raw;
 
+use crate::fast;
+
 extern "C" {
     /// The soundness scan in C.
     fn peer_scan(table: *const raw::Table) -> u8;
 }
 
-/// The version that the comparison is for, 0.9.0: the first number times 65,536, the second times 256.
-pub const VERSION: u32 = 2304;
+/// The version that the comparison is for, 0.10.0: the first number times 65,536, the second times 256.
+pub const VERSION: u32 = 2560;
 
-/// The archive's calls, and the scan in C.
+/// The archive's calls, the scan in C and the version that is written for speed.
 pub trait Calls {
     /// The wholly unborn table.
     fn unborn(&self) -> raw::Table {
@@ -46,10 +48,27 @@ pub trait Calls {
         unsafe { raw::captable_access(*table) }
     }
 
+    /// Potential access, by groups.
+    fn access_by_groups(&self, table: &mut raw::Table) -> raw::Relation {
+        // SAFETY: the call takes a value alone.
+        unsafe { raw::captable_access_by_groups(*table) }
+    }
+
     /// The confinement test.
     fn test(&self, table: &mut raw::Table, members: u64, list: &mut [u8]) -> raw::Finding {
         // SAFETY: pointer and length are of one slice.
         unsafe { raw::captable_test(*table, members, list.as_mut_ptr(), list.len()) }
+    }
+
+    /// The confinement test, its bound by groups.
+    fn test_by_groups(
+        &self,
+        table: &mut raw::Table,
+        members: u64,
+        list: &mut [u8],
+    ) -> raw::Finding {
+        // SAFETY: pointer and length are of one slice.
+        unsafe { raw::captable_test_by_groups(*table, members, list.as_mut_ptr(), list.len()) }
     }
 
     /// The chain to an object of the bound.
@@ -104,6 +123,21 @@ pub trait Calls {
     fn scan(&self, table: &raw::Table) -> u8 {
         // SAFETY: the scan reads one table, laid out as the archive has it.
         unsafe { peer_scan(table) }
+    }
+
+    /// Potential access by the version that is written for speed.
+    fn fast_access(&self, table: &raw::Table) -> raw::Relation {
+        let mut answer = raw::Relation {
+            rows: [u64::MAX; 256],
+            number: u8::MAX,
+        };
+        fast::access(table, &mut answer);
+        answer
+    }
+
+    /// The confinement test by the version that is written for speed.
+    fn fast_test(&self, table: &raw::Table, members: u64, list: &[u8]) -> raw::Finding {
+        fast::test(table, members, list)
     }
 }
 

@@ -14,7 +14,9 @@ pub enum Call {
     Stepped,
     Sound,
     Access,
+    AccessByGroups,
     Test,
+    TestByGroups,
     Chain,
     Read,
     Import,
@@ -26,12 +28,14 @@ pub enum Call {
 }
 
 impl Call {
-    pub const ALL: [Call; 13] = [
+    pub const ALL: [Call; 15] = [
         Call::Step,
         Call::Stepped,
         Call::Sound,
         Call::Access,
+        Call::AccessByGroups,
         Call::Test,
+        Call::TestByGroups,
         Call::Chain,
         Call::Read,
         Call::Import,
@@ -49,7 +53,9 @@ impl Call {
             Call::Stepped => "captable_step_by_value",
             Call::Sound => "captable_sound",
             Call::Access => "captable_access",
+            Call::AccessByGroups => "captable_access_by_groups",
             Call::Test => "captable_test",
+            Call::TestByGroups => "captable_test_by_groups",
             Call::Chain => "captable_chain",
             Call::Read => "captable_read",
             Call::Import => "captable_import",
@@ -92,7 +98,12 @@ pub fn answer(call: Call, sample: &Sample) -> u8 {
         Call::Stepped => Archive.stepped(&mut table, &mut bytes).number,
         Call::Sound => Archive.sound(&mut table),
         Call::Access => Archive.access(&mut table).number,
+        Call::AccessByGroups => Archive.access_by_groups(&mut table).number,
         Call::Test => Archive.test(&mut table, sample.members, &mut bytes).number,
+        Call::TestByGroups => {
+            let found = Archive.test_by_groups(&mut table, sample.members, &mut bytes);
+            found.number
+        }
         Call::Chain => {
             let shown = Archive.chain(&mut table, sample.members, &mut bytes, sample.object);
             shown.number

@@ -1,7 +1,7 @@
 //! The inputs that stack and instructions are measured on: for each call some that are done and some
 //! that are refused, on table K, on the filled table, and on 64 objects in a row, where a test takes the most rounds;
-//! tests with wk alone in many slots too, requests with empty copies, reclaims, and images of either version of tables
-//! with makers and without.
+//! tests with wk alone in many slots too, tables of one group and of many, requests with empty copies, reclaims, and
+//! images of either version of tables with makers and without.
 
 use yavrinks_model::access::potential_access;
 use yavrinks_model::chain::chain;
@@ -17,6 +17,7 @@ use yavrinks_tools::generate::{encode_input, newer_input, printed_number};
 use yavrinks_tools::generate::{ConfinementCase, ShownCase};
 
 use crate::calls::{Call, Sample};
+use crate::group_samples::{group_tables, group_tests, walk_tables};
 use crate::samples::{farthest, imports, keeping, list_bytes, made_table};
 use crate::samples::{material_test, mended, own_test};
 use crate::samples::{places, reclaims, requests, rows, unsound_at_the_end, with_slots_filled};
@@ -31,8 +32,8 @@ pub fn samples(call: Call) -> Vec<Sample> {
             places.iter().flat_map(steps).chain(named).collect()
         }
         Call::Sound => tables().into_iter().map(sound).collect(),
-        Call::Access => tables().into_iter().map(access).collect(),
-        Call::Test => tests().into_iter().map(test).collect(),
+        Call::Access | Call::AccessByGroups => access_tables().into_iter().map(access).collect(),
+        Call::Test | Call::TestByGroups => all_tests().into_iter().map(test).collect(),
         Call::Chain => tests().into_iter().flat_map(chains).map(shown).collect(),
         Call::Read => imaged().iter().flat_map(reads).collect(),
         Call::Import => {
@@ -97,6 +98,13 @@ fn tables() -> Vec<(String, Table)> {
     tables
 }
 
+/// The tables of potential access, those with one group and with many among them.
+fn access_tables() -> Vec<(String, Table)> {
+    let grouped = group_tables().into_iter().chain(walk_tables());
+    let grouped = grouped.map(|one| (one.name, one.table));
+    tables().into_iter().chain(grouped).collect()
+}
+
 fn sound((name, table): (String, Table)) -> Sample {
     Sample {
         name,
@@ -152,6 +160,12 @@ fn tests() -> Vec<(String, ConfinementCase)> {
         tests.push((format!("{}, slots filled", row.name), own_test(&full)));
     }
     tests
+}
+
+/// The tests, those on tables with one group and with many among them.
+fn all_tests() -> Vec<(String, ConfinementCase)> {
+    let grouped = group_tests().into_iter().map(|one| (one.name, one.case));
+    tests().into_iter().chain(grouped).collect()
 }
 
 fn test((name, case): (String, ConfinementCase)) -> Sample {

@@ -35,7 +35,7 @@ pub fn one(call: &str, input: &str) -> Option<ExitCode> {
 fn count_all() -> Result<(), String> {
     valgrind().arg("--version").output().map_err(missing)?;
     eprintln!(
-        "instructions: each call is run once under callgrind on every input, a minute or two in all"
+        "instructions: each call is run once under callgrind on every input, some minutes in all"
     );
     let program = std::env::current_exe()
         .map_err(|error| format!("the program does not know where it is: {error}"))?;
@@ -43,7 +43,7 @@ fn count_all() -> Result<(), String> {
         "Instructions inside a call, least and most of several inputs. A table by value is copied"
     );
     println!("by the caller, which is not counted.\n");
-    println!("{:24}{:>9}  {:42}{:>9}  on", "call", "least", "on", "most");
+    println!("{:27}{:>9}  {:42}{:>9}  on", "call", "least", "on", "most");
     let all = Call::ALL.iter().map(|&call| samples(call).len() as u64);
     let mut progress = Progress::new("instructions: inputs counted", all.sum());
     let mut done = 0;
@@ -57,7 +57,7 @@ fn count_all() -> Result<(), String> {
         }
         counted.sort();
         if let (Some((least, best)), Some((most, worst))) = (counted.first(), counted.last()) {
-            println!("{:24}{least:>9}  {best:42}{most:>9}  {worst}", call.name());
+            println!("{:27}{least:>9}  {best:42}{most:>9}  {worst}", call.name());
         }
     }
     println!("\nAfter the name of an input: the number that was answered, 0 for done.");

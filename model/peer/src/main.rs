@@ -13,6 +13,7 @@ fn main() -> ExitCode {
             None => not_understood(),
         },
         ["bench"] => bench::command(),
+        ["bench", "groups"] => bench::groups_command(),
         ["stack"] => stack::command(),
         ["instructions"] => instructions::command(),
         // Not in the text for the technician: `instructions` runs it to count one call.

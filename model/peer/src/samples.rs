@@ -55,8 +55,16 @@ pub fn rows() -> [Place; 2] {
 
 /// The same row, held in every slot.
 pub fn with_slots_filled(row: &Place) -> Place {
-    let mut filled = row.clone();
-    for record in &mut filled.table.records {
+    Place {
+        table: first_in_all_slots(&row.table),
+        ..row.clone()
+    }
+}
+
+/// The table with what the first slot of an object holds in all of its slots.
+pub fn first_in_all_slots(table: &Table) -> Table {
+    let mut filled = table.clone();
+    for record in &mut filled.records {
         record.slots = [record.slots[0]; SLOTS];
     }
     filled

@@ -13,8 +13,10 @@ usage: yavrinks-peer COMMAND
       Prints how often each number was answered, how often a request that was done had an empty copy
       and what that met, how often a test was answered where a member holds wk alone that the list
       lacks, how many rounds accepted tests took, how often makers were recorded, found and refused,
-      and what reclaims that were done emptied and reset. At the first difference it prints the case
-      and both answers.
+      and what reclaims that were done emptied and reset. Potential access and the test are compared in
+      both ways, by the rules and by groups, and so is the version of both that is written for speed;
+      how many groups the tables had is counted. At the first difference it prints the case and both
+      answers.
       The same SEED asks the same on every machine. Without numbers: seed 1, 10000000 requests,
       1000000 inputs.
 
@@ -26,6 +28,11 @@ usage: yavrinks-peer COMMAND
       images of both versions, soundness and images where every object has a maker, the longest import
       and a small one, the chain against the test that it begins with, and the step on a lent table
       against one soundness scan in C. Run it on a machine that does nothing else.
+
+  bench groups
+      Times potential access and the confinement test by groups, in turn with the same by the rules, the
+      version that is written for speed and the model: on tables of one group, of many groups with wk
+      between them, and on random ones of each density. Prints two tables.
 
   stack
       Measures how many bytes of stack each call of the archive takes (x86-64 alone). The header

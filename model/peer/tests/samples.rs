@@ -197,7 +197,10 @@ fn these_calls_are_measured_with_every_number() {
     for (call, numbers) in [
         (Call::Step, &[0, 1, 2, 6, 24][..]),
         (Call::Stepped, &[0, 1, 2, 6, 24]),
+        (Call::Access, &[0, 1]),
+        (Call::AccessByGroups, &[0, 1]),
         (Call::Test, &CONFINEMENT_NUMBERS),
+        (Call::TestByGroups, &CONFINEMENT_NUMBERS),
         (Call::Chain, &SHOWN_NUMBERS),
         (Call::Read, &[0, 1, 14, 15]),
         (Call::Import, &IMPORT_NUMBERS),

@@ -8,6 +8,7 @@ pub mod copies;
 pub mod definitions;
 pub mod empty_kinds;
 pub mod generate;
+pub mod misread_groups;
 pub mod misread_reclaim;
 pub mod misread_rounds;
 pub mod progress;

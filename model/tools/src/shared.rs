@@ -6,7 +6,8 @@ mod lines;
 
 use crate::generate::{ConfinementCase, StepCase};
 pub use lines::ImageLine;
-use lines::{field, hexadecimal, values, StepLine, TestLine};
+use lines::{byte, field, hexadecimal, index, table, values, Json, StepLine, TestLine};
+use yavrinks_model::access::Access;
 use yavrinks_model::step::Request;
 use yavrinks_model::table::Table;
 
@@ -17,11 +18,34 @@ pub fn shared_imports() -> Vec<Vec<u8>> {
     bytes.map(hexadecimal).collect()
 }
 
+/// Every table in `vectors/access.jsonl`, in the order of the file, with number and potential access that it says.
+pub fn shared_access() -> Vec<(Table, (u8, Access))> {
+    let lines = values(include_str!("../../vectors/access.jsonl"));
+    let answer = |line: &Json| (byte(field(line, "number")), rights_in(field(line, "rows")));
+    let tables = lines.iter().map(|line| table(field(line, "table")));
+    tables.zip(lines.iter().map(answer)).collect()
+}
+
+fn rights_in(rows: &Json) -> Access {
+    let mut access = Access::none();
+    for (holder, row) in rows.as_object().expect("rows") {
+        for (target, rights) in row.as_object().expect("row") {
+            access.rights[index(holder)][index(target)] = byte(rights);
+        }
+    }
+    access
+}
+
 /// A test with the number and the bound that the vectors say; from 2.6 on they say the number of rounds too.
 pub struct SharedTest {
     pub test: ConfinementCase,
     pub answer: (u8, u64),
     pub rounds: Option<u8>,
+}
+
+/// Every test in `vectors/tests.jsonl`, in the order of the file. Seven of them are amended by 2.3.
+pub fn shared_base_tests() -> Vec<SharedTest> {
+    tests_in(include_str!("../../vectors/tests.jsonl"))
 }
 
 /// Every test in `vectors/2.3`, in the order of the file.

@@ -8,11 +8,12 @@ use std::path::{Path, PathBuf};
 use yavrinks_model::confinement::{confinement_test, Tested};
 use yavrinks_model::image::Version;
 use yavrinks_model::step::{step, Request};
-use yavrinks_model::table::{Capability, Record, Table, WK};
+use yavrinks_model::table::{Capability, Record, Table, RD, TX, WK, WR};
 use yavrinks_tools::definitions::askers::askers;
-use yavrinks_tools::definitions::cases::{subjects, Answer, Case, Part, Question};
+use yavrinks_tools::definitions::cases::{subjects, Answer, Case, GroupRow, Part, Question};
 use yavrinks_tools::definitions::crates::{case_crates, CaseCrate};
 use yavrinks_tools::definitions::draw::{cases, questions, Counts};
+use yavrinks_tools::definitions::misread_groups::misread_groups;
 use yavrinks_tools::definitions::misread_makers;
 use yavrinks_tools::definitions::misread_reclaim::{
     misread_after, misread_clean, misread_steps, CLEAN_READINGS,
@@ -26,6 +27,7 @@ use yavrinks_tools::definitions::{summary, terms, Options};
 use yavrinks_tools::empty_kinds::{empty_kinds, EmptyKind};
 use yavrinks_tools::generate::{any_damage, any_sound_table, encode_input};
 use yavrinks_tools::generate::{ConfinementCase, ShownCase};
+use yavrinks_tools::misread_groups::Misread as MisreadGroups;
 use yavrinks_tools::misread_reclaim::Misread;
 use yavrinks_tools::misread_rounds::{Misreading, MISREADINGS};
 use yavrinks_tools::rng::Rng;
@@ -400,6 +402,81 @@ fn soundness_is_stated_for_each_maker() {
     assert!(text.contains(statement), "{text}");
 }
 
+/// Of table K, 0, 1 and 5 are a group; 2 has wk over these and over 6; 7 is unborn.
+#[test]
+fn groups_and_rows_are_stated_for_each_number() {
+    let group = 1 | 1 << 1 | 1 << 5;
+    let weakly = group | 1 << 2 | 1 << 6;
+    for (row, definition, sets) in [
+        (
+            GroupRow::Group,
+            "groupOf (tableHolding table-0005)",
+            [group, 4],
+        ),
+        (
+            GroupRow::Over(RD),
+            "rowByGroups (tableHolding table-0005) rd",
+            [group, 4],
+        ),
+        (
+            GroupRow::Over(WR),
+            "rowByGroups (tableHolding table-0005) wr",
+            [group, 4],
+        ),
+        (
+            GroupRow::Over(WK),
+            "rowByGroups (tableHolding table-0005) wk",
+            [group, weakly],
+        ),
+        (
+            GroupRow::Over(TX),
+            "rowByGroups (tableHolding table-0005) tx",
+            [group, 4],
+        ),
+    ] {
+        let case = Case::new(Question::ByGroups {
+            table: Table::k(),
+            row,
+            numbers: vec![5, 2, 7],
+        });
+        let text = declarations(&case, 5, "A.b");
+        assert!(text.contains("of-0005 = 5 ∷ 2 ∷ 7 ∷ []\n"));
+        let [first, second] = sets;
+        let statement = format!(
+            "case-0005 : _≡_ {{A = List ℕ}} (map ({definition}) of-0005) ({first} ∷ {second} ∷ 0 ∷ [])\n"
+        );
+        assert!(text.contains(&statement), "{text}");
+    }
+}
+
+/// The row of 2 for wk is the 130th.
+#[test]
+fn potential_access_by_groups_is_stated_whole() {
+    let unsound = {
+        let mut table = Table::k();
+        table.records[3].status = 0;
+        table
+    };
+    for (table, number, weakly_of_2) in [(Table::k(), 0, 103), (unsound, 1, 0)] {
+        let text = declarations(&Case::new(Question::AccessByGroups { table }), 5, "A.b");
+        let statement = format!(
+            "case-0005 : _≡_ {{A = ℕ × List ℕ}} (related (accessByGroups table-0005)) ({number}, rows-0005)\n"
+        );
+        assert!(text.contains(&statement), "{text}");
+        let (_, rows) = text.split_once("rows-0005 = ").expect("rows");
+        let row = rows.split('∷').nth(128 + 2).map(str::trim);
+        assert_eq!(row, Some(weakly_of_2.to_string().as_str()));
+    }
+}
+
+#[test]
+fn a_bound_by_groups_is_stated_alone() {
+    let text = declarations(&Case::new(Question::BoundByGroups(example_1())), 5, "A.b");
+    assert!(text.starts_with("-- case 5: bound by groups, done\n"));
+    let statement = "case-0005 : _≡_ {A = ℕ} (boundByGroups table-0005 32 list-0005) 7\n";
+    assert!(text.contains(statement), "{text}");
+}
+
 /// Into a buffer that is too short for either form, without makers and with one.
 #[test]
 fn writing_is_stated_with_its_version() {
@@ -533,7 +610,7 @@ fn the_default_run_asks_everything() {
         .iter()
         .map(|case| (case.question.subject(), case.answer.number()))
         .collect();
-    let expected: [(&str, &[u8]); 30] = [
+    let expected: [(&str, &[u8]); 34] = [
         ("clean along a run", &[0]),
         ("clean after one", &[0]),
         ("1 read", &[0, 1, 2, 3, 4, 5, 6]),
@@ -556,6 +633,10 @@ fn the_default_run_asks_everything() {
         ("chain to an object", &[0, 1, 10, 11, 12, 13, 18, 19]),
         ("least chain", &[0]),
         ("potential access", &[0, 1]),
+        ("group of an object", &[0]),
+        ("row by groups", &[0]),
+        ("access by groups", &[0, 1]),
+        ("bound by groups", &[0]),
         ("sound by makers", &[1]),
         ("image read", &[0, 1, 14, 15]),
         ("image written, older", &[0, 1, 16, 23]),
@@ -837,12 +918,85 @@ fn wrong_answers_differ_from_the_right_ones() {
     // Of soundness, ten makers of a record of each status.
     let is_sound = |case: &&Case| matches!(case.question, Question::Sound { .. });
     assert_eq!(wrong.iter().filter(is_sound).count(), 3 * 10);
+    // By groups, the wrong readings.
+    let is_by_groups = |case: &&Case| {
+        let row = matches!(case.question, Question::ByGroups { .. });
+        row || matches!(case.question, Question::BoundByGroups(_))
+    };
+    let by_groups = wrong.iter().filter(is_by_groups).count();
+    assert_eq!(by_groups, MisreadGroups::ALL.len());
     let of_makers = misread_makers::MISREADINGS.len();
-    // Of each of eight other kinds a wrong number and wrong content, of least chains wrong content.
-    let others = 2 * 8 + 1;
+    // Of each of eight other kinds a wrong number and wrong content, of least chains wrong content, of potential access
+    // by groups a wrong number.
+    let others = 2 * 8 + 1 + 1;
     let listed = 3 + 2 * 16 + 16 + worth + 12 + 3 + 2 + MISREADINGS.len() + 3 * 10 + of_makers;
     let of_2_8 = of_clean + of_after + of_reclaims;
-    assert_eq!(wrong.len(), of_2_8 + listed + others);
+    assert_eq!(wrong.len(), of_2_8 + listed + by_groups + others);
+}
+
+/// A round asks for a group and for a row of each right, of born and unborn numbers, and for two bounds: of several
+/// objects, and without one that is born.
+#[test]
+fn every_row_is_asked_by_groups() {
+    let mut rows = BTreeSet::new();
+    let mut bounds = Vec::new();
+    for case in cases_of(1, 0, 1) {
+        match (&case.question, &case.answer) {
+            (
+                Question::ByGroups {
+                    table,
+                    row,
+                    numbers,
+                },
+                Answer::Sets(sets),
+            ) => {
+                let born = numbers.iter().filter(|&&n| table.is_born(n)).count();
+                assert_eq!((numbers.len(), born, sets.len()), (4, 3, 4));
+                rows.insert(match row {
+                    GroupRow::Group => 0,
+                    GroupRow::Over(right) => *right,
+                });
+            }
+            (Question::BoundByGroups(test), Answer::Set(bound)) => {
+                let outside = test.table.born() & !test.members;
+                bounds.push((bound.count_ones() > 1, bound & outside != outside));
+            }
+            _ => {}
+        }
+    }
+    assert_eq!(rows, BTreeSet::from([0, RD, WR, WK, TX]));
+    assert!(
+        bounds[0].0 && bounds[1].1 && bounds.len() == 2,
+        "{bounds:?}"
+    );
+}
+
+/// With any seed each wrong reading of 2.9 has a statement of its own: a group or a row, and a bound where it is right
+/// about all of these. Every kind of row is among them.
+#[test]
+fn wrong_groups_are_among_the_wrong_answers() {
+    for seed in 1..6 {
+        let wrong = misread_groups(&mut Rng::new(seed));
+        let mut rows = BTreeSet::new();
+        for (case, misread) in wrong.iter().zip(MisreadGroups::ALL) {
+            assert_ne!(case, &Case::new(case.question.clone()));
+            let of_bound = match &case.question {
+                Question::ByGroups { row, numbers, .. } => {
+                    assert_eq!(numbers.len(), 1);
+                    rows.insert(match row {
+                        GroupRow::Group => 0,
+                        GroupRow::Over(right) => *right,
+                    });
+                    false
+                }
+                _ => true,
+            };
+            let of_members = [MisreadGroups::MembersInBound, MisreadGroups::MembersForList];
+            assert_eq!(of_bound, of_members.contains(&misread), "{misread:?}");
+        }
+        assert_eq!(wrong.len(), MisreadGroups::ALL.len());
+        assert_eq!(rows.len(), 5, "{rows:?}");
+    }
 }
 
 /// In the default run each wrong reading of 2.8 has a statement of its own.

@@ -156,12 +156,24 @@ extern "C" {
     pub fn captable_step_by_value(table: Table, request: *const u8, length: usize) -> Outcome;
     /// Potential access of a table.
     pub fn captable_access(table: Table) -> Relation;
+    /// Potential access of a table, worked by groups: the same answer as that of `captable_access`.
+    pub fn captable_access_by_groups(table: Table) -> Relation;
     /// The confinement test of a set of members and a list, two bytes for each entry: the bound, and the rounds that
     /// it took. What a member holds with wk alone needs no entry.
     ///
     /// # Safety
     /// `list` points to `length` bytes.
     pub fn captable_test(table: Table, members: u64, list: *const u8, length: usize) -> Finding;
+    /// The same test, its bound worked by groups: the same answer as that of `captable_test`.
+    ///
+    /// # Safety
+    /// `list` points to `length` bytes.
+    pub fn captable_test_by_groups(
+        table: Table,
+        members: u64,
+        list: *const u8,
+        length: usize,
+    ) -> Finding;
     /// The chain to an object of the bound of that test.
     ///
     /// # Safety

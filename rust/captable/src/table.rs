@@ -231,6 +231,37 @@ impl Table {
         Ok(Relation::new(relation.rows))
     }
 
+    /// The same answer as that of [`potential_access`](Table::potential_access), for every table, worked in another way.
+    /// See [two ways](crate#two-ways).
+    ///
+    /// ```
+    /// # let mut table = captable::Table::unborn();
+    /// # for n in [1, 2, 3, 4] {
+    /// #     table.record_mut(n).status = captable::ALIVE;
+    /// # }
+    /// # *table.slot_mut(1, 0) = captable::Capability { target: 2, rights: captable::RD };
+    /// # *table.slot_mut(3, 0) = captable::Capability { target: 2, rights: captable::WR };
+    /// # *table.slot_mut(4, 0) = captable::Capability { target: 3, rights: captable::WK };
+    /// use captable::{Right, Set};
+    ///
+    /// // 1 reads 2, and 3 writes to it: 1, 2 and 3 are one group. 4 reads 3 weakly, and so all of them.
+    /// let access = table.access_by_groups()?;
+    /// assert_eq!(access.over(1, Right::Wr), Set::of(&[1, 2, 3]));
+    /// assert_eq!(access.over(4, Right::Wk), Set::of(&[1, 2, 3, 4]));
+    /// assert_eq!(access.over(4, Right::Rd), Set::of(&[4]));
+    /// assert_eq!(access, table.potential_access()?);
+    /// # Ok::<(), captable::AccessRefusal>(())
+    /// ```
+    ///
+    /// # Errors
+    /// 1 for a table that is not sound.
+    pub fn access_by_groups(&self) -> Result<Relation, AccessRefusal> {
+        // SAFETY: the call takes a value alone.
+        let relation = unsafe { raw::captable_access_by_groups(self.0) };
+        AccessRefusal::check(relation.number)?;
+        Ok(Relation::new(relation.rows))
+    }
+
     /// The confinement test: the non-members that the members can ever influence, if over non-members they
     /// hold no more than the list has, wk alone not counted; and in how many [rounds](Finding::rounds) that
     /// influence spreads.
@@ -267,6 +298,25 @@ impl Table {
         // SAFETY: the length is within the array.
         let finding =
             unsafe { raw::captable_test(self.0, members.bits(), list.bytes.as_ptr(), list.length) };
+        TestRefusal::check(finding.number)?;
+        Ok(Finding::new(&finding))
+    }
+
+    /// The same answer as that of [`test`](Table::test), refusals included, with the bound worked in another way. See
+    /// [two ways](crate#two-ways).
+    ///
+    /// # Errors
+    /// Those of [`test`](Table::test).
+    pub fn test_by_groups(
+        &self,
+        members: Set,
+        list: &[Capability],
+    ) -> Result<Finding, TestRefusal> {
+        let list = ListBytes::new(list);
+        // SAFETY: the length is within the array.
+        let finding = unsafe {
+            raw::captable_test_by_groups(self.0, members.bits(), list.bytes.as_ptr(), list.length)
+        };
         TestRefusal::check(finding.number)?;
         Ok(Finding::new(&finding))
     }

@@ -5,9 +5,9 @@
 mod common;
 
 use captable::raw::{
-    captable_chain, captable_confine, captable_import, captable_read, captable_step,
-    captable_step_by_value, captable_test, captable_write, captable_write_older, Finding, Outcome,
-    Shown,
+    captable_access, captable_access_by_groups, captable_chain, captable_confine, captable_import,
+    captable_read, captable_step, captable_step_by_value, captable_test, captable_test_by_groups,
+    captable_write, captable_write_older, Finding, Outcome, Shown,
 };
 use captable::{Table, ACTIVE, ALIVE, WK, WR};
 use common::{cap, k, set, step_in_both_forms};
@@ -32,6 +32,10 @@ fn no_bytes_may_come_with_a_null_pointer() {
         assert_eq!(captable_step_by_value(*k().as_raw(), null(), 0).number, 2);
         assert_eq!(
             captable_test(*k().as_raw(), set(&[5]).bits(), null(), 0).number,
+            12
+        );
+        assert_eq!(
+            captable_test_by_groups(*k().as_raw(), set(&[5]).bits(), null(), 0).number,
             12
         );
         assert_eq!(
@@ -91,11 +95,35 @@ fn example_1_is_printed() {
     assert!(printed[length..].iter().all(|&byte| byte == 0xaa));
 }
 
-/// The finding of the test of table K, where 5 is the member.
+/// The finding of the test of table K, where 5 is the member; by groups it is the same.
+#[track_caller]
 fn tested(list: &[u8]) -> Finding {
     let members = set(&[5]).bits();
     // SAFETY: the list is the caller's own.
-    unsafe { captable_test(*k().as_raw(), members, list.as_ptr(), list.len()) }
+    let (found, by_groups) = unsafe {
+        (
+            captable_test(*k().as_raw(), members, list.as_ptr(), list.len()),
+            captable_test_by_groups(*k().as_raw(), members, list.as_ptr(), list.len()),
+        )
+    };
+    assert_eq!(found, by_groups, "{list:?}");
+    found
+}
+
+/// Whoever is asked, an unsound table has no rights in any row.
+#[test]
+fn an_unsound_table_has_no_rights_by_groups_either() {
+    let mut unsound = k();
+    unsound.record_mut(63).kind = 2;
+    // SAFETY: the calls take a value alone.
+    let (refused, by_groups) = unsafe {
+        (
+            captable_access(*unsound.as_raw()),
+            captable_access_by_groups(*unsound.as_raw()),
+        )
+    };
+    assert_eq!((by_groups.number, by_groups.rows), (1, [0; 256]));
+    assert_eq!(refused, by_groups);
 }
 
 /// 1 comes in round one; 0 and 2, which have a capability over it, in round two.

@@ -42,6 +42,33 @@ pub fn in_turn(mut first: impl FnMut(), mut second: impl FnMut()) -> Figures {
     }
 }
 
+/// Several sides on the same input, timed in turn: of each the nanoseconds a call, round by round.
+pub fn all_in_turn<T>(input: &mut T, sides: &[fn(&mut T)]) -> Vec<Vec<f64>> {
+    let counts: Vec<u32> = sides
+        .iter()
+        .map(|side| calls_in_a_turn(&mut || side(input)))
+        .collect();
+    let mut times = vec![Vec::new(); sides.len()];
+    for _ in 0..ROUNDS {
+        for ((side, &count), times) in sides.iter().zip(&counts).zip(&mut times) {
+            times.push(nanos(&mut || side(input), count));
+        }
+    }
+    times
+}
+
+/// The least of a side's times.
+pub fn least(times: &[f64]) -> f64 {
+    times.iter().copied().fold(f64::INFINITY, f64::min)
+}
+
+/// Of the ratios of two sides' times, round by round, the middle one.
+pub fn middle_ratio(first: &[f64], second: &[f64]) -> f64 {
+    let mut ratios: Vec<f64> = first.iter().zip(second).map(|(a, b)| a / b).collect();
+    ratios.sort_by(f64::total_cmp);
+    ratios[ratios.len() / 2]
+}
+
 /// Nanoseconds a call, over so many calls.
 fn nanos(work: &mut impl FnMut(), calls: u32) -> f64 {
     let began = Instant::now();

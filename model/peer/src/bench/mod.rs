@@ -2,9 +2,12 @@
 //! that it begins with, and of the step on a lent table against one soundness scan in C. Both sides check
 //! soundness at each step, as document 01 asks.
 
+mod groups;
 mod measure;
 mod steps;
 mod wholes;
+
+pub use groups::command as groups_command;
 
 use std::process::ExitCode;
 

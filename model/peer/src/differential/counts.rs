@@ -1,8 +1,9 @@
 //! How often each call gave each number, how often empty copies, makers and reclaims were met, how many rounds tests
-//! took, and the tables that are printed of it.
+//! took, how many groups tables had, and the tables that are printed of it.
 
 use std::fmt;
 
+use super::grouped::{GroupCounts, Way};
 use super::makers::{MakerCounts, MakerKind};
 use super::reclaims::{Again, ReclaimCounts, Tally};
 use super::rounds::RoundCounts;
@@ -22,7 +23,9 @@ pub enum Line {
     NoRequest,
     Sound,
     Access,
+    AccessByGroups,
     Test,
+    TestByGroups,
     Chain,
     Write(Version),
     Read(Version),
@@ -33,7 +36,7 @@ pub enum Line {
 }
 
 /// How many lines there are.
-const LINES: usize = 22;
+const LINES: usize = 24;
 
 /// The names of the lines, in order of their place.
 fn names() -> Vec<String> {
@@ -42,7 +45,9 @@ fn names() -> Vec<String> {
         "bytes of wrong length",
         "soundness",
         "potential access",
+        "the same by groups",
         "confinement test",
+        "the same by groups",
         "chain to an object",
         "version 1 written, read",
         "version 2 written, read",
@@ -67,13 +72,15 @@ impl Line {
             Line::NoRequest => 10,
             Line::Sound => FIRST_OTHER,
             Line::Access => 12,
-            Line::Test => 13,
-            Line::Chain => 14,
-            Line::Write(version) => 14 + usize::from(version.number()),
-            Line::Read(version) => 16 + usize::from(version.number()),
-            Line::ReadOther => 19,
-            Line::Import => 20,
-            Line::Confine => 21,
+            Line::AccessByGroups => 13,
+            Line::Test => 14,
+            Line::TestByGroups => 15,
+            Line::Chain => 16,
+            Line::Write(version) => 16 + usize::from(version.number()),
+            Line::Read(version) => 18 + usize::from(version.number()),
+            Line::ReadOther => 21,
+            Line::Import => 22,
+            Line::Confine => 23,
         }
     }
 
@@ -88,7 +95,7 @@ impl Line {
 const TESTS: [Line; 3] = [Line::Test, Line::Chain, Line::Confine];
 
 /// How often each line had each number: in all, and of tests those where a member holds wk alone that the
-/// list lacks. How often each kind of empty copies, of makers and of reclaims came, and each number of rounds.
+/// list lacks. How often each kind of empty copies, of makers and of reclaims came, each number of rounds and of groups.
 #[derive(Clone, Debug, Default, PartialEq, Eq)]
 pub struct Counts {
     all: [[u64; NUMBERS]; LINES],
@@ -97,6 +104,7 @@ pub struct Counts {
     makers: MakerCounts,
     reclaims: ReclaimCounts,
     rounds: RoundCounts,
+    groups: GroupCounts,
 }
 
 impl Counts {
@@ -143,6 +151,16 @@ impl Counts {
         self.rounds.add(rounds);
     }
 
+    /// Counts a sound table that was compared both ways, by its groups.
+    pub fn add_groups(&mut self, way: Way, table: &Table, groups: &[u64]) {
+        self.groups.add(way, table, groups);
+    }
+
+    /// The counts of groups.
+    pub fn groups(&self) -> &GroupCounts {
+        &self.groups
+    }
+
     /// How many accepted tests took so many rounds.
     pub fn of_rounds(&self, rounds: u8) -> u64 {
         self.rounds.of(rounds)
@@ -185,7 +203,8 @@ impl fmt::Display for Counts {
         writeln!(out)?;
         writeln!(out, "{}", self.makers)?;
         writeln!(out, "{}", self.reclaims)?;
-        write!(out, "{}", self.rounds)
+        writeln!(out, "{}", self.rounds)?;
+        write!(out, "{}", self.groups)
     }
 }
 

@@ -6,6 +6,7 @@ mod counts;
 mod course;
 mod draw;
 mod facts;
+mod grouped;
 mod inputs;
 mod makers;
 mod reclaims;
@@ -18,6 +19,7 @@ mod wholes;
 
 pub use counts::{Counts, Line};
 pub use facts::{Compared, Difference};
+pub use grouped::{grouped_table, Way, SPANS};
 pub use makers::MakerKind;
 pub use reclaims::{Again, Tally};
 pub use steps::{compare_step, Ask, Twin};
@@ -54,7 +56,10 @@ makers: of requests that were done; of the tables whose soundness was compared, 
 sound one, and each record that offends where nothing but makers does
 reclaims: of those that were done; each is counted once in every line of its kind, and in those of slots and
 makers as often as it emptied or reset one. Made again are numbers that were reclaimed in the same table
-rounds: of the confinement tests that were accepted, how many rounds added an object; most is the most of any";
+rounds: of the confinement tests that were accepted, how many rounds added an object; most is the most of any
+both ways: each table and each test goes to the call by the rules, to the one by groups and to the version that is
+written for speed. Counted are the groups of sound tables, of accepted tests those that non-members make, and the
+tables where one has wk over an object of another group";
 
 /// A difference, and the place in the run where it was met.
 #[derive(Debug)]

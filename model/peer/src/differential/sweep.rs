@@ -1,7 +1,8 @@
-//! All calls but the step, on the table as it is and on tables, images and imports that are aimed at each number; and
-//! steps of each kind of empty copies, by and on objects with makers, and reclaims of each kind.
+//! All calls but the step, on the table as it is and on tables, images and imports that are aimed at each number, and on
+//! tables of several groups; and steps of each kind of empty copies, by and on objects with makers, and reclaims of each
+//! kind.
 
-use yavrinks_model::confinement::Entry;
+use yavrinks_model::confinement::{Entry, MAX_ENTRIES};
 use yavrinks_model::image::{encode, Version, VERSION_AT};
 use yavrinks_model::step::{Code, Fields, Request};
 use yavrinks_model::table::{Table, ACTIVE, ALL_RIGHTS, WR};
@@ -19,6 +20,7 @@ use super::counts::{Counts, Line};
 use super::course::put_anything;
 use super::draw::{any_bytes, ask};
 use super::facts::Compared;
+use super::grouped::{grouped_table, Way, SPANS};
 use super::one_step;
 use super::steps::Twin;
 use super::unlisted::{count_test, Test};
@@ -26,6 +28,7 @@ use super::weak::{weak_case, Beside};
 use super::wholes::{compare_access, compare_chain, compare_import, compare_read, compare_sound};
 use super::wholes::{compare_test, compare_unborn, compare_write};
 use crate::archive::Calls;
+use crate::groups::{groups_among, groups_of};
 use crate::samples::list_bytes;
 
 /// The calls on a whole table: the one given, and others that are aimed at each number. Then the steps.
@@ -40,9 +43,9 @@ pub fn sweep(
     put_anything(rng, &mut touched);
     for table in [table, &touched, &damaged_table(rng, kind)] {
         one_sound(calls, table, counts)?;
+        one_access(calls, table, counts)?;
     }
     compare_unborn(calls)?;
-    counts.add(Line::Access, compare_access(calls, table)?);
     compare_tests(calls, rng, table, counts)?;
     compare_chains(calls, rng, table, counts)?;
     // Generators of their own, since nothing else hangs on what follows.
@@ -54,6 +57,7 @@ pub fn sweep(
     compare_imports(calls, &mut Rng::new(bits), counts)?;
     compare_weak(calls, &mut Rng::new(!bits), table, counts)?;
     compare_layered(calls, &mut Rng::new(!bits.rotate_left(32)), counts)?;
+    compare_grouped(calls, &mut Rng::new(bits.rotate_left(48)), counts)?;
     compare_empty(calls, &mut Rng::new(bits.rotate_left(32)), counts)
 }
 
@@ -126,6 +130,42 @@ fn one_sound(calls: &impl Calls, table: &Table, counts: &mut Counts) -> Compared
     counts.add(Line::Sound, compare_sound(calls, table)?);
     counts.add_makers(table);
     Ok(())
+}
+
+/// Potential access of a table, both ways.
+fn one_access(calls: &impl Calls, table: &Table, counts: &mut Counts) -> Compared<()> {
+    let number = compare_access(calls, table)?;
+    counts.add(Line::Access, number);
+    counts.add(Line::AccessByGroups, number);
+    if number == 0 {
+        counts.add_groups(Way::Access, table, &groups_of(table));
+    }
+    Ok(())
+}
+
+/// A table of few groups, of some and of many, and a test on each of them.
+fn compare_grouped(calls: &impl Calls, rng: &mut Rng, counts: &mut Counts) -> Compared<()> {
+    for span in SPANS {
+        let groups = rng.between(*span.start(), *span.end());
+        let table = grouped_table(rng, groups);
+        one_access(calls, &table, counts)?;
+        if let Some(mut case) = weak_case(rng, &table, Beside::Nothing) {
+            list_more(rng, &mut case);
+            let list = list_bytes(&case.list);
+            one_test(calls, (&case.table, case.members, &list), counts)?;
+        }
+    }
+    Ok(())
+}
+
+/// Lists a few entries more than an accepted test needs, as far as there is room.
+fn list_more(rng: &mut Rng, case: &mut ConfinementCase) {
+    let outside = born_non_members(&case.table, case.members);
+    for _ in 0..rng.between(0, 3) {
+        let target = rng.pick(&outside).filter(|_| case.list.len() < MAX_ENTRIES);
+        let entry = target.map(|target| (target, rng.byte(1, ALL_RIGHTS)));
+        case.list.extend(entry);
+    }
 }
 
 /// Tables that makers alone make unsound, an allocate by an object that was made, and a destroy of one.
@@ -224,12 +264,17 @@ fn compare_tests(
     one_test(calls, (&case.table, case.members, &list), counts)
 }
 
+/// A test both ways, and potential access of its table.
 fn one_test(calls: &impl Calls, test: Test, counts: &mut Counts) -> Compared<()> {
     let (table, members, list) = test;
+    one_access(calls, table, counts)?;
     let tested = compare_test(calls, table, members, list)?;
     count_test(counts, Line::Test, tested.number, test);
+    counts.add(Line::TestByGroups, tested.number);
     if tested.is_accepted() {
         counts.add_rounds(tested.rounds);
+        let groups = groups_among(table, table.born() & !members);
+        counts.add_groups(Way::Test, table, &groups);
     }
     Ok(())
 }

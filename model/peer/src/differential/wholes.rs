@@ -57,28 +57,36 @@ pub fn compare_sound(calls: &impl Calls, table: &Table) -> Compared<u8> {
     Ok(number)
 }
 
-/// Potential access, all 256 rows.
+/// Potential access, all 256 rows: by the rules, by groups and by the version that is written for speed.
 pub fn compare_access(calls: &impl Calls, table: &Table) -> Compared<u8> {
     let given = to_raw(table);
     let (number, access) = potential_access(table);
-    let mut lent = given;
-    let found = calls.access(&mut lent);
+    let expected = rows(&access);
     let facts = |number: u8, rows: &[u64], table: &raw::Table| {
         Facts::new()
             .number("number", number)
             .sets("rows", rows)
             .table("table that was given", table)
     };
-    same(
-        "captable_access",
-        || Facts::new().table("table", &given),
-        facts(number, &rows(&access), &given),
-        facts(found.number, &found.rows, &lent),
-    )?;
+    let is_same = |call, found: &raw::Relation, lent: &raw::Table| {
+        same(
+            call,
+            || Facts::new().table("table", &given),
+            facts(number, &expected, &given),
+            facts(found.number, &found.rows, lent),
+        )
+    };
+    let mut lent = given;
+    let found = calls.access(&mut lent);
+    is_same("captable_access", &found, &lent)?;
+    let found = calls.access_by_groups(&mut lent);
+    is_same("captable_access_by_groups", &found, &lent)?;
+    is_same("access for speed", &calls.fast_access(&lent), &lent)?;
     Ok(number)
 }
 
-/// The confinement test of any members and any bytes of a list: the bound, and the rounds that it took.
+/// The confinement test of any members and any bytes of a list: the bound, and the rounds that it took; in the same
+/// three ways.
 pub fn compare_test(
     calls: &impl Calls,
     table: &Table,
@@ -87,8 +95,6 @@ pub fn compare_test(
 ) -> Compared<Tested> {
     let given = to_raw(table);
     let tested = confinement_test(table, members, &decode_list(list));
-    let (mut lent, mut bytes) = (given, Box::<[u8]>::from(list));
-    let found = calls.test(&mut lent, members, &mut bytes);
     let facts = |tested: Tested, table: &raw::Table, bytes: &[u8]| {
         Facts::new()
             .number("number", tested.number)
@@ -103,12 +109,17 @@ pub fn compare_test(
             .sets("members", &[members])
             .bytes("list", list)
     };
-    same(
-        "captable_test",
-        case,
-        facts(tested, &given, list),
-        facts(found_by(&found), &lent, &bytes),
-    )?;
+    let is_same = |call, found: raw::Finding, lent: &raw::Table, bytes: &[u8]| {
+        let found = facts(found_by(&found), lent, bytes);
+        same(call, case, facts(tested, &given, list), found)
+    };
+    let (mut lent, mut bytes) = (given, Box::<[u8]>::from(list));
+    let found = calls.test(&mut lent, members, &mut bytes);
+    is_same("captable_test", found, &lent, &bytes)?;
+    let found = calls.test_by_groups(&mut lent, members, &mut bytes);
+    is_same("captable_test_by_groups", found, &lent, &bytes)?;
+    let found = calls.fast_test(&lent, members, &bytes);
+    is_same("test for speed", found, &lent, &bytes)?;
     Ok(tested)
 }
 

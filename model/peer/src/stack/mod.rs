@@ -24,12 +24,12 @@ pub fn command() -> ExitCode {
     println!("Bytes of stack that a call takes, the most of several inputs, from the return address down.");
     println!("Where a table goes by value, the 2,048 bytes that the caller pushes are counted too; the place");
     println!("of what is given back is the caller's and is not. Goal: at most {GOAL}.\n");
-    println!("{:24}{:>7}{:>8}  on the input", "call", "bytes", "goal");
+    println!("{:27}{:>7}{:>8}  on the input", "call", "bytes", "goal");
     for call in Call::ALL {
         match need(call) {
             Ok(Need { bytes, input }) => {
                 let verdict = if bytes <= GOAL { "met" } else { "missed" };
-                println!("{:24}{bytes:>7}{verdict:>8}  {input}", call.name());
+                println!("{:27}{bytes:>7}{verdict:>8}  {input}", call.name());
             }
             Err(reason) => {
                 eprintln!("{reason}");

@@ -54,7 +54,9 @@ fn function(call: Call) -> *const () {
         Call::Stepped => raw::captable_step_by_value as *const (),
         Call::Sound => raw::captable_sound as *const (),
         Call::Access => raw::captable_access as *const (),
+        Call::AccessByGroups => raw::captable_access_by_groups as *const (),
         Call::Test => raw::captable_test as *const (),
+        Call::TestByGroups => raw::captable_test_by_groups as *const (),
         Call::Chain => raw::captable_chain as *const (),
         Call::Read => raw::captable_read as *const (),
         Call::Import => raw::captable_import as *const (),
@@ -92,8 +94,8 @@ fn arguments(call: Call, sample: &Sample, places: &Places) -> Arguments {
         Call::Step => [table, start, length, 0, 0],
         Call::Stepped | Call::Read | Call::Import => [result, start, length, 0, 0],
         Call::Sound | Call::Version => [0; 5],
-        Call::Access | Call::Unborn => [result, 0, 0, 0, 0],
-        Call::Test => [members, start, length, 0, 0],
+        Call::Access | Call::AccessByGroups | Call::Unborn => [result, 0, 0, 0, 0],
+        Call::Test | Call::TestByGroups => [members, start, length, 0, 0],
         Call::Chain => [result, members, start, length, object],
         Call::Write | Call::WriteOlder => [start, length, 0, 0, 0],
         Call::Confine => [start, length, result, 0, 0],
@@ -105,8 +107,10 @@ fn number(call: Call, registers: [u64; 2], place: &[u64]) -> u8 {
     let result: Vec<u8> = place.iter().flat_map(|word| word.to_ne_bytes()).collect();
     match call {
         Call::Step | Call::Sound | Call::Write | Call::WriteOlder => registers[0] as u8,
-        Call::Test => (registers[1] >> TEST_NUMBER_BIT) as u8,
-        Call::Stepped | Call::Access | Call::Read | Call::Import => result[NUMBER_AT],
+        Call::Test | Call::TestByGroups => (registers[1] >> TEST_NUMBER_BIT) as u8,
+        Call::Stepped | Call::Access | Call::AccessByGroups | Call::Read | Call::Import => {
+            result[NUMBER_AT]
+        }
         Call::Chain => result[CHAIN_NUMBER_AT],
         Call::Confine => {
             let count = usize::try_from(registers[0]).map_or(0, |count| count.min(256));

@@ -2,6 +2,7 @@
 
 mod done;
 mod empty;
+mod groups;
 mod makers;
 mod reclaim;
 mod rights;

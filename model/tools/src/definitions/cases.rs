@@ -3,11 +3,12 @@
 
 use crate::generate::{printed_number, ConfinementCase, ShownCase};
 use crate::rights::{Cells, Row};
-use crate::rows::rows;
+use crate::rows::{row, rows};
 use yavrinks_model::access::potential_access;
 use yavrinks_model::chain::chain;
 use yavrinks_model::confine::confine;
 use yavrinks_model::confinement::{confinement_test, passes, Entry, Tested, MAX_ENTRIES};
+use yavrinks_model::groups::{access_by_groups, group_of, test_by_groups};
 use yavrinks_model::image::{read, write, Version};
 use yavrinks_model::refusal::Refusal;
 use yavrinks_model::rounds::rounds;
@@ -37,6 +38,14 @@ impl Part {
         Part::Requests,
         Part::Replies,
     ];
+}
+
+/// What is asked of an object by groups.
+#[derive(Clone, Copy, Debug, PartialEq, Eq)]
+pub enum GroupRow {
+    Group,
+    /// Over whom it has the right.
+    Over(u8),
 }
 
 /// What is asked.
@@ -96,6 +105,18 @@ pub enum Question {
     Access {
         table: Table,
     },
+    /// Potential access by groups.
+    AccessByGroups {
+        table: Table,
+    },
+    /// The group, or a row of potential access by groups, of some numbers of a sound table.
+    ByGroups {
+        table: Table,
+        row: GroupRow,
+        numbers: Vec<u8>,
+    },
+    /// The bound of an accepted test by groups.
+    BoundByGroups(ConfinementCase),
     /// Whether a table is sound where a record has each of some makers.
     Sound {
         table: Table,
@@ -133,8 +154,10 @@ pub enum Question {
 pub enum Answer {
     /// The clean objects at the start, and what they have of the run.
     Clean(u64, CleanPart),
-    /// The clean objects.
+    /// The clean objects, or the bound.
     Set(u64),
+    /// A set for each number that is asked about.
+    Sets(Vec<u64>),
     Table(u8, Table),
     /// What the slot holds after each copy, or what each capability is weakened to.
     Slots(Vec<Capability>),
@@ -191,6 +214,10 @@ const PASSING: &str = "rights of a member";
 const CHAIN: &str = "chain to an object";
 const LEAST_CHAIN: &str = "least chain";
 const ACCESS: &str = "potential access";
+const GROUP: &str = "group of an object";
+const ROW_BY_GROUPS: &str = "row by groups";
+const ACCESS_BY_GROUPS: &str = "access by groups";
+const BOUND_BY_GROUPS: &str = "bound by groups";
 const SOUND: &str = "sound by makers";
 const READ: &str = "image read";
 const OLDER: &str = "image written, older";
@@ -206,9 +233,11 @@ pub fn subjects() -> Vec<String> {
     subjects.extend(Code::ALL.map(Code::label));
     let steps = [UNKNOWN, LANDING, WORTH, NEEDS, WEAKENING, RUN];
     let wholes = [TEST, THERE, PASSING, CHAIN, LEAST_CHAIN, ACCESS, SOUND];
+    let groups = [GROUP, ROW_BY_GROUPS, ACCESS_BY_GROUPS, BOUND_BY_GROUPS];
     let images = [READ, OLDER, WRITTEN, DECISION];
     let bytes = [IMPORT, REQUEST_BYTES, LIST_BYTES];
-    let others = steps.into_iter().chain(wholes).chain(images).chain(bytes);
+    let others = steps.into_iter().chain(wholes).chain(groups);
+    let others = others.chain(images).chain(bytes);
     subjects.extend(others.map(String::from));
     subjects
 }
@@ -264,6 +293,19 @@ impl Question {
                 let (number, access) = potential_access(table);
                 Answer::Rows(number, rows(&access))
             }
+            Question::AccessByGroups { table } => {
+                let (number, access) = access_by_groups(table);
+                Answer::Rows(number, rows(&access))
+            }
+            Question::ByGroups {
+                table,
+                row,
+                numbers,
+            } => group_answer(table, *row, numbers),
+            Question::BoundByGroups(test) => {
+                let tested = test_by_groups(&test.table, test.members, &test.list);
+                Answer::Set(tested.bound)
+            }
             Question::Sound { table, n, makers } => {
                 let sound = makers.iter().map(|&maker| sound_if(table, *n, maker));
                 Answer::Sound(sound.collect())
@@ -305,6 +347,12 @@ impl Question {
             Question::Chain { .. } => CHAIN,
             Question::LeastChain { .. } => LEAST_CHAIN,
             Question::Access { .. } => ACCESS,
+            Question::AccessByGroups { .. } => ACCESS_BY_GROUPS,
+            Question::ByGroups { row, .. } => match row {
+                GroupRow::Group => GROUP,
+                GroupRow::Over(_) => ROW_BY_GROUPS,
+            },
+            Question::BoundByGroups(_) => BOUND_BY_GROUPS,
             Question::Sound { .. } => SOUND,
             Question::Read { .. } => READ,
             Question::Write { version, .. } => match version {
@@ -335,7 +383,7 @@ impl Answer {
             Answer::Entries(list) if list.len() > MAX_ENTRIES => 11,
             Answer::Passing(all) if all.contains(&false) => Refusal::RightNotListed.number(),
             Answer::Sound(all) if all.contains(&false) => Refusal::TableNotSound.number(),
-            Answer::Clean(..) | Answer::Set(_) | Answer::Slots(_) => 0,
+            Answer::Clean(..) | Answer::Set(_) | Answer::Sets(_) | Answer::Slots(_) => 0,
             Answer::Worth(_) | Answer::There(_) => 0,
             Answer::Ask(_) | Answer::Entries(_) | Answer::Passing(_) | Answer::Sound(_) => 0,
         }
@@ -346,6 +394,16 @@ fn sound_if(table: &Table, n: u8, maker: u8) -> bool {
     let mut table = table.clone();
     table.record_mut(n).maker = maker;
     table.is_sound()
+}
+
+/// What the model has by groups for each of the numbers.
+fn group_answer(table: &Table, of: GroupRow, numbers: &[u8]) -> Answer {
+    let (_, access) = access_by_groups(table);
+    let set = |&n: &u8| match of {
+        GroupRow::Group => group_of(table, n),
+        GroupRow::Over(right) => row(&access, right, n),
+    };
+    Answer::Sets(numbers.iter().map(set).collect())
 }
 
 /// What a printed text says: the number, and the bound, a number a line.

@@ -1,6 +1,7 @@
 //! Draws the questions of a run from the package's generators, so that every request code and every
 //! refusal is asked in turn.
 
+use super::by_groups::{by_groups, BY_GROUPS};
 use super::cases::{Answer, Case, Question};
 use super::clean::{clean_after_one, clean_run, AFTERS};
 use super::landing::{landing, LANDINGS};
@@ -127,7 +128,7 @@ type Draw = fn(&mut Rng, usize) -> Question;
 /// The questions of a run. Each kind has a generator of its own, so that the number of one kind
 /// does not change the questions of another.
 pub fn questions(seed: u64, counts: &Counts) -> Vec<Question> {
-    let in_a_round: [(usize, Draw); 21] = [
+    let in_a_round: [(usize, Draw); 22] = [
         (aims().len(), aimed_step),
         (TELLING, telling_step),
         (4, run),
@@ -149,6 +150,7 @@ pub fn questions(seed: u64, counts: &Counts) -> Vec<Question> {
         (SPREADINGS, spreading),
         (RECLAIMS, reclaim),
         (AFTERS, clean_after_one),
+        (BY_GROUPS, by_groups),
     ];
     let rounds = in_a_round.map(|(count, draw)| (counts.rounds * count, draw));
     let mut seeds = Rng::new(seed);

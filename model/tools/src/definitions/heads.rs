@@ -2,9 +2,11 @@
 //! values of the model.
 
 /// The crates that the statements are about. What these stand on comes with them.
-pub const CRATES: [&str; 7] = [
+pub const CRATES: [&str; 9] = [
     "isolation",
     "chains",
+    "groups",
+    "group_tests",
     "report",
     "image_out",
     "take_grant",
@@ -34,7 +36,11 @@ use Rattle.copies.specs.Copies.{landed}
 use Rattle.steps.specs.declared.Stepped.{Stepped}
 use Rattle.steps.specs.Steps.{stepOf, runTable, runReplies}
 use Rattle.access.specs.declared.Access.{Access}
+use Rattle.relation.specs.Relation.{rd, wr, wk, tx, tableHolding}
 use Rattle.access.specs.Answers.{accessOf, accessNumber}
+use Rattle.groups.specs.Groups.{groupOf, rowByGroups}
+use Rattle.groups.specs.Answers.{accessByGroups}
+use Rattle.group_tests.specs.Bounds.{boundByGroups}
 use Rattle.confinement.specs.declared.Tested.{Tested}
 use Rattle.confinement.specs.Refusals.{passes, verdictNumber}
 use Rattle.confinement.specs.Rounds.{objectsAfter}

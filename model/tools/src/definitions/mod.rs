@@ -3,6 +3,7 @@
 //! give the same answers.
 
 pub mod askers;
+mod by_groups;
 pub mod cases;
 pub mod clean;
 pub mod crates;
@@ -10,6 +11,7 @@ pub mod draw;
 mod heads;
 mod landing;
 mod makers;
+pub mod misread_groups;
 pub mod misread_makers;
 pub mod misread_reclaim;
 mod options;

@@ -1,7 +1,7 @@
 //! A case as declarations of antt: its values under names of their own, then the statement that
 //! the definition gives the expected answer. The checker proves it by computing the definition.
 
-use super::cases::{Answer, Case, Part, Question};
+use super::cases::{Answer, Case, GroupRow, Part, Question};
 use super::terms;
 use crate::generate::{ConfinementCase, ShownCase};
 use crate::rights::{Cells, Column};
@@ -10,7 +10,7 @@ use yavrinks_model::links::Links;
 use yavrinks_model::runs::CleanPart;
 use yavrinks_model::set;
 use yavrinks_model::step::Request;
-use yavrinks_model::table::{Capability, Table, WK};
+use yavrinks_model::table::{Capability, Table, RD, WK, WR};
 
 /// The room for the numbers of a chain.
 const CHAIN_ROOM: usize = 63;
@@ -53,6 +53,18 @@ const NEEDS: [(&str, Column); 3] = [
 fn worth([weakened, reads, writes, sends]: &Cells) -> String {
     let weakened = if *weakened { WK } else { 0 };
     format!("({weakened}, {reads}, {writes}, {sends})")
+}
+
+/// The definition that gives the group, or over whom one has a right.
+fn group_row(row: GroupRow, table: &str) -> String {
+    let right = match row {
+        GroupRow::Group => return format!("groupOf (tableHolding {table})"),
+        GroupRow::Over(RD) => "rd",
+        GroupRow::Over(WR) => "wr",
+        GroupRow::Over(WK) => "wk",
+        GroupRow::Over(_) => "tx",
+    };
+    format!("rowByGroups (tableHolding {table}) {right}")
 }
 
 /// The number of the stand-in among 64: that of the lowest member.
@@ -136,6 +148,19 @@ impl Writer<'_> {
             Question::Access { table } => {
                 format!("related (accessOf {})", self.table("table", table))
             }
+            Question::AccessByGroups { table } => {
+                format!("related (accessByGroups {})", self.table("table", table))
+            }
+            Question::ByGroups {
+                table,
+                row,
+                numbers,
+            } => {
+                let table = self.table("table", table);
+                let numbers = self.bytes("of", numbers);
+                format!("map ({}) {numbers}", group_row(*row, &table))
+            }
+            Question::BoundByGroups(case) => format!("boundByGroups {}", self.test(case)),
             Question::Sound { table, n, makers } => {
                 let table = self.table("table", table);
                 let makers = self.bytes("makers", makers);
@@ -249,7 +274,7 @@ impl Writer<'_> {
                 bound,
                 rounds,
             }) => ("ℕ × ℕ × ℕ", format!("({number}, {bound}, {rounds})")),
-            Answer::There(sets) => {
+            Answer::There(sets) | Answer::Sets(sets) => {
                 let sets = terms::numbers(sets.iter().copied());
                 ("List ℕ", format!("({sets})"))
             }

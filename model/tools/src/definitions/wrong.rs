@@ -2,6 +2,7 @@
 //! accept with any answer checks nothing.
 
 use super::cases::{Answer, Case, Part, Question};
+use super::misread_groups::misread_groups;
 use super::misread_makers;
 use super::misread_reclaim::{misread_after, misread_clean, misread_steps};
 use crate::copies::landed_by;
@@ -21,7 +22,7 @@ use yavrinks_model::table::{Capability, Table, ACTIVE, ALIVE, ALL_RIGHTS, WK};
 /// land, one for each that is asked about; of what rights are worth, one for each thing that is said of the values
 /// 0 to 15; of what is there after rounds, one round more for each that adds something; of steps also some where an
 /// empty copy empties; of tests also one for each wrong reading of how many rounds there are; of soundness, one for
-/// each maker; and one for each wrong reading of 2.7 and of 2.8.
+/// each maker; and one for each wrong reading of 2.7, of 2.8 and of 2.9.
 pub fn wrong_cases(rng: &mut Rng, cases: &[Case]) -> Vec<Case> {
     let mut wrong = Vec::new();
     let mut seen = Vec::new();
@@ -40,6 +41,7 @@ pub fn wrong_cases(rng: &mut Rng, cases: &[Case]) -> Vec<Case> {
     wrong.extend(misread_steps(cases));
     wrong.extend(misread_clean(cases));
     wrong.extend(misread_after(cases));
+    wrong.extend(misread_groups(rng));
     wrong
 }
 
@@ -129,7 +131,11 @@ fn made_wrong(rng: &mut Rng, case: &Case) -> Vec<Case> {
                 .collect(),
         },
         Answer::Worth(_) => wrong_worth(&case.question),
-        Answer::Sound(_) => Vec::new(),
+        Answer::Sound(_) | Answer::Sets(_) => Vec::new(),
+        Answer::Set(_) if matches!(case.question, Question::BoundByGroups(_)) => Vec::new(),
+        Answer::Rows(0, _) if matches!(case.question, Question::AccessByGroups { .. }) => {
+            Vec::new()
+        }
         Answer::There(sets) => one_round_more(&case.question, sets),
         answer if answer.number() == 0 => vec![with_answer(case, other_content(rng, answer))],
         answer => {
@@ -253,7 +259,7 @@ fn other_number(answer: &Answer) -> Answer {
         Answer::Ask(request) => *request = Request::Read { actor: 0, t: 0 },
         Answer::Entries(list) => list.push((0, 0)),
         Answer::Passing(truths) | Answer::Sound(truths) => truths.push(true),
-        Answer::There(sets) => sets.push(0),
+        Answer::There(sets) | Answer::Sets(sets) => sets.push(0),
         Answer::Slots(slots) => slots.push(Capability::EMPTY),
         Answer::Worth(rows) => rows.push([false; 4]),
         Answer::Clean(start, _) => *start ^= 1,
@@ -287,7 +293,7 @@ fn other_content(rng: &mut Rng, answer: &Answer) -> Answer {
         Answer::Decided(_, bound) => *bound ^= 1 << rng.between(0, 63),
         Answer::Set(set) => *set ^= 1 << rng.between(0, 63),
         Answer::Passing(truths) | Answer::Sound(truths) => truths.push(true),
-        Answer::There(sets) => sets.push(0),
+        Answer::There(sets) | Answer::Sets(sets) => sets.push(0),
         Answer::Slots(slots) => slots.push(Capability::EMPTY),
         Answer::Worth(rows) => rows.push([false; 4]),
         Answer::Clean(start, _) => *start ^= 1,

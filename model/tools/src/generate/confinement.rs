@@ -53,7 +53,12 @@ fn accepted_case(rng: &mut Rng) -> Option<ConfinementCase> {
     } else {
         Shape::random(rng)
     };
-    let mut table = sound_table(rng, &shape);
+    let table = sound_table(rng, &shape);
+    accepted_on(rng, table)
+}
+
+/// A case that is accepted, of a sound table; capabilities that stand in the way are replaced. None if nobody is alive.
+pub fn accepted_on(rng: &mut Rng, mut table: Table) -> Option<ConfinementCase> {
     let members = random_members(rng, &table)?;
     hide_members(rng, &mut table, members);
     if rng.percent(25) {

@@ -1,10 +1,11 @@
-//! Random tables, requests, empty copies, reclaims, tests, questions for a chain, images, tables to be written, inputs
-//! and imports, each aimed at a chosen outcome.
+//! Random tables, requests, empty copies, reclaims, tests, tables in groups, questions for a chain, images, tables to be
+//! written, inputs and imports, each aimed at a chosen outcome.
 //! All of it follows from the seed of the generator that is lent to it.
 
 mod confinement;
 mod empty_copies;
 mod empty_requests;
+mod groups;
 mod images;
 mod imports;
 mod makers;
@@ -18,6 +19,7 @@ pub use confinement::{
 };
 pub use empty_copies::empty_copy_case;
 pub use empty_requests::turn_to_empty;
+pub use groups::{grouped_table, grouped_test};
 pub use images::{
     confine_input, encode_input, image_case, image_of, newer_input, printed_number, write_case,
     WriteCase, CONFINE_NUMBERS, IMAGE_NUMBERS, INPUT_COUNT_AT, WRITE_NUMBERS,

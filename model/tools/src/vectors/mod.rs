@@ -73,7 +73,7 @@ impl Part {
 }
 
 /// What makes each part, in the order in which the program runs them.
-const MAKERS: [fn() -> Part; 11] = [
+const MAKERS: [fn() -> Part; 13] = [
     images::part,
     images::writes_part,
     steps::part,
@@ -81,7 +81,9 @@ const MAKERS: [fn() -> Part; 11] = [
     chain::lent_part,
     edges::part,
     verdicts::part,
+    verdicts::by_groups_part,
     relations::part,
+    relations::by_groups_part,
     links::part,
     shown::part,
     imports::part,

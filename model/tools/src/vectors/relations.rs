@@ -3,7 +3,8 @@
 use super::{digest, layout, Part};
 use crate::generate::{any_damage, any_sound_table, sound_table, Shape};
 use crate::rng::Rng;
-use yavrinks_model::access::potential_access;
+use yavrinks_model::access::{potential_access, Access};
+use yavrinks_model::groups::access_by_groups;
 use yavrinks_model::table::Table;
 
 /// Tables of all 64 objects from bare to full, tables of any shape, and unsound ones.
@@ -33,10 +34,23 @@ pub fn access_cases() -> Vec<Table> {
     tables
 }
 
+/// By the rules.
 pub fn part() -> Part {
-    let mut part = Part::new("access", "potential access: case, number, relation");
+    worked("potential access: case, number, relation", potential_access)
+}
+
+/// By groups, of the same tables.
+pub fn by_groups_part() -> Part {
+    worked(
+        "the same by groups: case, number, relation",
+        access_by_groups,
+    )
+}
+
+fn worked(heading: &'static str, work: fn(&Table) -> (u8, Access)) -> Part {
+    let mut part = Part::new("access", heading);
     for table in access_cases() {
-        let (number, access) = potential_access(&table);
+        let (number, access) = work(&table);
         let digest = digest::text(digest::of_relation(&access));
         part.add(&layout::table(&table), format!("{number} {digest}"));
     }

@@ -7,6 +7,7 @@ use crate::generate::{any_damage, confinement_case, ConfinementCase};
 use crate::rng::Rng;
 use crate::shared::{shared_tests, shared_tests_with_makers};
 use yavrinks_model::confinement::{confinement_test, Entry, Tested};
+use yavrinks_model::groups::test_by_groups;
 use yavrinks_model::set;
 use yavrinks_model::table::{Capability, Record, Table};
 use yavrinks_model::table::{
@@ -245,14 +246,29 @@ fn wk_over_a_member(kind: u8) -> ConfinementCase {
     case
 }
 
+/// As the test is.
 pub fn part() -> Part {
-    under("confinement tests: case, number, rounds, bound", |case| {
-        let tested = confinement_test(&case.table, case.members, &case.list);
+    worked(
+        "confinement tests: case, number, rounds, bound",
+        confinement_test,
+    )
+}
+
+/// By groups, of the same cases.
+pub fn by_groups_part() -> Part {
+    worked(
+        "the same by groups: case, number, rounds, bound",
+        test_by_groups,
+    )
+}
+
+fn worked(heading: &'static str, test: fn(&Table, u64, &[Entry]) -> Tested) -> Part {
+    under(heading, |case| {
         let Tested {
             number,
             bound,
             rounds,
-        } = tested;
+        } = test(&case.table, case.members, &case.list);
         format!("{number} {rounds} {bound:016x}")
     })
 }

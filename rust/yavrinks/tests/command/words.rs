@@ -38,7 +38,7 @@ fn the_version_is_the_packages_and_the_librarys() {
     for word in ["--version", "-V"] {
         let output = yavrinks(&[word]).output().expect("the command runs");
         let printed = String::from_utf8(output.stdout).expect("text");
-        assert_eq!(printed, "yavrinks 0.1.0, libcaptable 0.9.0\n");
+        assert_eq!(printed, "yavrinks 0.1.0, libcaptable 0.10.0\n");
         assert_eq!(output.status.code(), Some(0));
     }
 }

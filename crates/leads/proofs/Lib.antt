@@ -1,0 +1,5 @@
+-- The laws that the proofs cite.
+pub mod Reaching
+pub mod Settling
+pub mod Grouping
+pub mod Words

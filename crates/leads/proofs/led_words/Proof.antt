@@ -1,0 +1,58 @@
+use mathlib.Core.Path.{_≡_, sym, _∙_}
+use native.Mathlib.Omega.{arith}
+use Rattle.mask.specs.Sets.{lessOf}
+use Rattle.relation.proofs.Reach.{count}
+use Rattle.leads.specs.Helpers.{Settled}
+use Rattle.leads.proofs.Settling.{settled-ends, settled-all, in-less, fewer-among}
+use borrow.Author.Needs.{needs}
+use Rattle.leads.proofs.led_words.Statement.{statement}
+use Rattle.leads.proofs.led_words.Tie as tie
+
+abbrev Inv-loop : tie.InvT-loop
+Inv-loop groups links among leading rows₀ settled₀ left₀ rows settled left = Settled groups links settled rows × (left ≡ lessOf among settled)
+
+abbrev μ-loop : tie.MeasureT-loop
+μ-loop groups links among leading rows₀ settled₀ left₀ rows settled left = count 64 left
+
+less-requires : tie.Need-less-requires Inv-loop μ-loop
+less-requires c κs = search needs
+
+less-requires-2 : tie.Need-less-requires-2 Inv-loop μ-loop
+less-requires-2 c κs = search needs
+
+loop-holds : tie.Need-loop-holds Inv-loop μ-loop
+loop-holds c = (settled-ends _ _ (c .before .before .before .pre .0) _ _ _ (c .before .before .before .pre .1) (c .before .before .before .pre .2) (c .before .less .ensures), c .less2 .ensures)
+
+lowest-requires : tie.Need-lowest-requires Inv-loop μ-loop
+lowest-requires c κs = omega arith
+
+settle-from-requires : tie.Need-settle-from-requires Inv-loop μ-loop
+settle-from-requires c κs = let q = c .before .lowest .ensures in (c .before .before .before .before .before .before .before .pre .0, c .before .before .before .loop .inv .0, q .low, sym (c .before .before .before .before .before .before .before .pre .1 _ (q .low)) ∙ in-less _ _ _ _ (q .low) (c .before .before .before .loop .inv .1) (q .there) .0)
+
+less-requires-3 : tie.Need-less-requires-3 Inv-loop μ-loop
+less-requires-3 c κs = search needs
+
+loop-less : tie.Need-loop-less Inv-loop μ-loop
+loop-less c = let s = c .before .settle-from .ensures in let q = c .before .before .before .lowest .ensures in fewer-among _ _ _ _ _ _ (c .before .before .before .before .before .loop .inv .1) (c .less3 .ensures) (s .more) (q .low) (q .there) (s .own)
+
+loop-again : tie.Need-loop-again Inv-loop μ-loop
+loop-again c = (c .before .settle-from .ensures .now, c .less3 .ensures)
+
+returns : tie.Need-returns Inv-loop μ-loop
+returns c = settled-all _ _ (c .before .before .before .before .before .pre .0) _ _ _ _ (c .before .before .before .before .before .pre .1) (c .before .loop .inv .0) (c .before .loop .inv .1) (omega arith)
+
+pub led-words-spec : {M : Type 1} → statement M
+led-words-spec =
+    tie.close
+    (tie.spec
+    Inv-loop
+    μ-loop
+    less-requires
+    less-requires-2
+    loop-holds
+    lowest-requires
+    settle-from-requires
+    less-requires-3
+    loop-less
+    loop-again
+    returns)
