@@ -1,11 +1,11 @@
--- What the call asks of its helpers, and the two ways out of it. Assumes nothing.
+-- What the call asks of its helpers, and what it answers of a sound table. Assumes nothing.
 use mathlib.Core.Path.{_≡_, refl, sym, _∙_, ap}
 use mathlib.Core.Bool.{Bool, true, false, not}
 use mathlib.Core.List.{List}
 use Prim.Native.Nat.{ℕ, zero, suc, _/_, _%_, _<_}
 use native.Mathlib.Omega.{arith}
 use lib.Dec.{eqb}
-use lib.ListN.{getD, replicate}
+use lib.ListN.{getD}
 use borrow.Author.Tests.{eqb-false, not-true}
 use Rattle.mask.specs.Sets.{has}
 use Rattle.mask.proofs.Tests.{byCases, clash, and-true}
@@ -19,7 +19,7 @@ use Rattle.table.proofs.SoundFacts.{sound-facts}
 use Rattle.table.proofs.Lists.{length-tabulate, getD-tabulate, as-tabulate}
 use Rattle.relation.specs.Relation.{rd, wr, wk, tx, tableHolding, rightAt}
 use Rattle.relation.specs.Closure.{rowOf}
-use Rattle.access.specs.declared.AccessReply.the-variants.{Done, TableUnsound}
+use Rattle.access.specs.declared.AccessReply.the-variants.{Done}
 use Rattle.relation.proofs.Tables.{takes-part}
 use Rattle.access.specs.Answers.{bornOutside, accessOf}
 use Rattle.access.proofs.TableWords.{outside-intro}
@@ -87,7 +87,3 @@ module _ (t : Table) (n : ℕ) (js ws gs ls : List ℕ) (p : Worked t n js ws gs
       let z : rows ≡ laidOut (G t) (ledWords (wordEdge (L t)) (N t)) = g ∙ rw (f, groups-are, links-are, p .born) refl in
       rw (sym s ∙ e, accessOf) (ap (λ (r : List ℕ). record { reply = Done; rows = r }) (z ∙ as-tabulate 256 _ 0 _ (length-tabulate 256 _)
       (λ k h. getD-tabulate 256 _ k 0 h ∙ row k (k / 64) refl h)))
-
-pub access-refused : (t : Table) (b : Bool) → b ≡ sound t → b ≡ false → record { reply = TableUnsound; rows = replicate 256 0 } ≡ accessOf t
-unfolding accessOf
-access-refused t b p q = rw (sym p ∙ q, accessOf) refl

@@ -1,3 +1,4 @@
+-- `grown`: what links reach from the lowest member, without the members, and the rounds. Assumes nothing.
 use Rattle.group_tests.proofs.Found.{stands, grown-is}
 use borrow.Author.Needs.{needs}
 use Rattle.group_tests.proofs.grown.Statement.{statement}

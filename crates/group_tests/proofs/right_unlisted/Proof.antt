@@ -1,3 +1,4 @@
+-- `right_unlisted` is row 12: every member passed is fine. Assumes nothing.
 use mathlib.Core.Path.{_≡_, sym, _∙_}
 use mathlib.Core.Logic.{⊎-elim}
 use mathlib.Core.Bool.{false}

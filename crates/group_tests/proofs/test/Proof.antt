@@ -1,3 +1,4 @@
+-- `test` is the definition: each way out is a law of Verdicts over what was found. Assumes nothing.
 use mathlib.Core.Path.{sym, _∙_}
 use borrow.Author.Tests.{not-true, not-false}
 use Rattle.table.proofs.Value.{value-sized}

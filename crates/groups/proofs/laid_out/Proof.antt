@@ -1,3 +1,4 @@
+-- `laid_out`: the four rows of each holder passed are laid out. Assumes nothing.
 use Prim.Native.Nat.{_-_, _≤_}
 use native.Mathlib.Omega.{arith}
 use Rattle.groups.proofs.Laid.{Laid, laid-none, laid-more, laid-all}

@@ -1,7 +1,9 @@
+-- `potential_access` answers the closure of the table, worked by groups, or that it is not sound. Assumes nothing.
 use mathlib.Core.Path.{refl}
 use Rattle.table.proofs.Value.{value-sized}
 use borrow.Author.Tests.{not-true, not-false}
-use Rattle.groups.proofs.Answered.{Worked, none-astray, joined-words, leading-words, own-words, access-done, access-refused}
+use Rattle.access.proofs.TableWords.{access-refused}
+use Rattle.groups.proofs.Answered.{Worked, none-astray, joined-words, leading-words, own-words, access-done}
 use borrow.Author.Needs.{needs}
 use Rattle.groups.proofs.potential_access.Statement.{statement}
 use Rattle.groups.proofs.potential_access.Tie as tie

@@ -1,3 +1,4 @@
+-- `held_words`: the words have what the holders passed hold, each slot and each holder a law of Passed. Assumes nothing.
 use mathlib.Core.Path.{_≡_, sym, _∙_}
 use mathlib.Core.Logic.{⊎-elim}
 use mathlib.Core.Bool.{false, true≢false}

@@ -1,3 +1,4 @@
+-- `noted`: over a number outside nothing is joined; over one inside, by its rights. Assumes nothing.
 use native.Mathlib.Omega.{arith}
 use mathlib.Core.Path.{refl}
 use borrow.Author.Tests.{not-true, not-false}

@@ -1,3 +1,4 @@
+-- `with_if` is the definition, either way. Assumes nothing.
 use mathlib.Core.Path.{refl}
 use Rattle.held.specs.Helpers.{includeIf}
 use Rattle.held.proofs.with_if.Statement.{statement}

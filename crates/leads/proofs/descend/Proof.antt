@@ -1,3 +1,4 @@
+-- `descend`: each number of the path is in a group. Assumes nothing.
 use Prim.Native.Nat.{_-_, _<_}
 use native.Mathlib.Omega.{arith}
 use Rattle.leads.specs.Helpers.{Along}

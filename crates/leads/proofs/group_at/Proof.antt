@@ -1,3 +1,4 @@
+-- `group_at`: who is joined to nobody reaches itself alone; else what a spread reaches. Assumes nothing.
 use mathlib.Core.Path.{_∙_, ap}
 use Rattle.links.specs.declared.Spread.{Spread}
 use Rattle.leads.proofs.Grouping.{alone-group, spread-set}

@@ -1,3 +1,4 @@
+-- `group_words`: the groups of the numbers passed are there, each a law of Grouping. Assumes nothing.
 use native.Mathlib.Omega.{arith}
 use Rattle.links.specs.Links.{wordEdge}
 use Rattle.relation.proofs.Reach.{count}

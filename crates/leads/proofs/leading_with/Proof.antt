@@ -1,3 +1,4 @@
+-- `leading_with`: a group more exactly where it leads on. Assumes nothing.
 use Rattle.leads.proofs.Grouping.{lead-kept, lead-more}
 use borrow.Author.Needs.{needs}
 use Rattle.leads.proofs.leading_with.Statement.{statement}

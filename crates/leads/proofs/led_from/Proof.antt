@@ -1,3 +1,4 @@
+-- `led_from`: what is there is reached, and the links of whom was looked at are taken; until nobody is left. Assumes nothing.
 use mathlib.Core.Path.{_≡_}
 use mathlib.Core.Bool.{true}
 use Prim.Native.Nat.{_-_, _<_}

@@ -1,3 +1,4 @@
+-- `led_words`: the rows of the settled are there, and in the end all are settled. Assumes nothing.
 use mathlib.Core.Path.{_≡_, sym, _∙_}
 use native.Mathlib.Omega.{arith}
 use Rattle.mask.specs.Sets.{lessOf}

@@ -1,3 +1,4 @@
+-- `settle`: the row of x is that of its whole group. Assumes nothing.
 use Rattle.leads.proofs.Settling.{settle-more}
 use borrow.Author.Needs.{needs}
 use Rattle.leads.proofs.settle.Statement.{statement}

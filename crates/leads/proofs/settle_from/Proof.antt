@@ -1,3 +1,4 @@
+-- `settle_from`: whoever was settled stays so, and x is settled last. Assumes nothing.
 use mathlib.Core.Path.{_≡_}
 use mathlib.Core.Bool.{true}
 use Prim.Native.Nat.{ℕ, _≤_, _<_}

@@ -1,3 +1,4 @@
+-- `way_on`: a settled number has its row, any other the links of its group. Assumes nothing.
 use native.Mathlib.Omega.{arith}
 use Rattle.leads.proofs.Settling.{way-settled, way-links}
 use borrow.Author.Needs.{needs}

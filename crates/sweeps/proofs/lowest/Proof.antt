@@ -1,3 +1,4 @@
+-- `lowest`: the zeros below the lowest digit that is set. Assumes nothing.
 use native.Mathlib.Omega.{arith}
 use Rattle.sweeps.proofs.Numbers.{lowest-is}
 use Rattle.sweeps.proofs.lowest.Statement.{statement}

@@ -1,3 +1,4 @@
+-- `near`: the words of the numbers passed, joined. Assumes nothing.
 use mathlib.Core.Path.{refl}
 use native.Mathlib.Omega.{arith}
 use Rattle.links.specs.Links.{wordEdge}

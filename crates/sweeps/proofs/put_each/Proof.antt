@@ -1,3 +1,4 @@
+-- `put_each`: the word stands at each number passed. Assumes nothing.
 use native.Mathlib.Omega.{arith}
 use Rattle.relation.proofs.Reach.{count}
 use Rattle.sweeps.proofs.Numbers.{Putting, put-none, put-next, put-all, fewer-left}

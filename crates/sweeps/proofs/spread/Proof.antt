@@ -1,3 +1,4 @@
+-- `spread`: each round that looks at what was added is a round over all that is there. Assumes nothing.
 use Prim.Native.Nat.{_-_}
 use native.Mathlib.Omega.{arith}
 use Rattle.links.specs.Links.{wordEdge}
