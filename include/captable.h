@@ -440,8 +440,9 @@ CAPTABLE_ANSWER captable_finding captable_test(captable_table table, uint64_t me
 
 /*
  * The same answer as that of captable_test, for every input: the same bound, the same rounds, and the same refusals in
- * the same order, with an empty bound. Its bound is worked by groups, as in captable_access_by_groups; the holders are
- * the non-members and the stand-in, which is in the place of all members and holds exactly the list.
+ * the same order, with an empty bound. Its bound is the bound by groups, where the holders are the
+ * non-members and the stand-in, which is in the place of all members and holds exactly the list. It is found in one
+ * walk along links from the stand-in, which counts the rounds too.
  *
  * Which of the two to take: by groups it is the shorter way for every test that was measured, and takes more stack.
  * captable_test goes round by round over all that is there. Times are in docs/PERFORMANCE.md.

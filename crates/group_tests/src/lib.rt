@@ -1,5 +1,5 @@
-// The confinement test worked by groups, document 02, 2.9: the answer of the test, by a shorter way. Each slot is looked at once, and each
-// object's links are taken once.
+// The confinement test by groups, document 02, 2.9: the answer of the test, by a shorter way. Its bound is the bound by groups; it is found,
+// with its rounds, in one walk along links that takes each object's links once, so that no group is made apart.
 use bounds::EntryList;
 use bounds::Grown;
 use confinement::Tested;

@@ -233,13 +233,13 @@
 //! Potential access and the confinement test come twice, with the same answer for every table, bound, rounds and
 //! refusals included:
 //!
-//! | by the rules | by groups |
+//! | the first way | by groups |
 //! |---|---|
 //! | [`Table::potential_access`] | [`Table::access_by_groups`] |
 //! | [`Table::test`] | [`Table::test_by_groups`] |
 //!
-//! The first goes by document 01's rules one by one. For the second, objects that a held rd, wr or tx joins, in either
-//! direction and through others, are one group: an object has all four rights over its group, and wk alone over every
+//! `potential_access` goes by document 01's rules one by one, and `test` by rounds over all that is there. By groups,
+//! objects that a held rd, wr or tx joins, in either direction and through others, are one group: an object has all four rights over its group, and wk alone over every
 //! born object outside of it from which links lead to it. It is the shorter way on every table and
 //! for every test that was measured; a full table is answered many times sooner. It takes more stack, which the header
 //! states.
