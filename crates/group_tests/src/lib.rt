@@ -73,8 +73,8 @@ pub fn test(t: Table, members: u64, list: EntryList) -> Tested
     }
     let slots = t.slots;
     let mut joins = [0u64; 64];
-    let mut weak = [0u64; 64];
-    if held::held_words(slots, outside, true, &mut joins, &mut weak) {
+    let mut over = [0u64; 64];
+    if held::held_words(slots, outside, true, &mut joins, &mut over) {
         return confinement::refused(Verdict::MemberHeld);
     }
     let found = grown(joins, members, list, outside);

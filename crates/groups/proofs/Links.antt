@@ -5,7 +5,7 @@ use mathlib.Core.List.{List}
 use Prim.Native.Nat.{ℕ, _<_}
 use lib.ListN.{getD}
 use Rattle.mask.specs.Sets.{has, unionOf}
-use Rattle.mask.proofs.Tests.{byCases, bool-ext, and-true, and-intro, or-cases}
+use Rattle.mask.proofs.Tests.{byCases, bool-ext, and-true, and-intro, or-cases, or-left, or-right}
 use Rattle.mask.proofs.Below.{any-intro, any-elim}
 use Rattle.mask.proofs.Bits.{bits-ext}
 use Rattle.table.specs.declared.Table.{Table}
@@ -36,8 +36,12 @@ module _ (t : Table) where
   abbrev pub J : List ℕ
   J = wordsOf (joinsEither false (slotHolding (t .slots) N))
 
+  -- over whom something is held
+  abbrev pub over : ℕ → ℕ → Bool
+  over x y = holdsStrong (slotHolding (t .slots) N) x y || slotHeld (t .slots) N wk x y
+
   abbrev pub W : List ℕ
-  W = wordsOf (slotHeld (t .slots) N wk)
+  W = wordsOf over
 
   -- what slots hold between born numbers is what the table's holding has between those who take part
   held-part : (b : Right) (x y : ℕ) → slotHeld (t .slots) N b x y ≡ (takesPart t x && (takesPart t y && holdsIn t b x y))
@@ -80,15 +84,23 @@ module _ (t : Table) where
   at-bond : (u v : ℕ) → bond T u v ≡ true → wordEdge J u v ≡ true
   at-bond u v e = let l = edge-low T (table-low t) rd u v e in joins-bond u v (l .0) (l .1) ∙ e
 
-  weak-at : (u v : ℕ) → wordEdge W u v ≡ true → (takesPart t u ≡ true) × (takesPart t v ≡ true) × (holdsIn t wk u v ≡ true)
-  weak-at u v e =
+  over-part : (x y : ℕ) → over x y ≡ (takesPart t x && (takesPart t y && (holdsStrong T x y || holdsIn t wk x y)))
+  over-part x y = ap₂ (λ (a b : Bool). a || b) (strong-part x y) (held-part wk x y) ∙ two (takesPart t x) (takesPart t y) (holdsStrong T x y) (holdsIn t wk x y)
+    where
+      two : (p q a b : Bool) → ((p && (q && a)) || (p && (q && b))) ≡ (p && (q && (a || b)))
+      two true true a b = refl
+      two true false a b = refl
+      two false q a b = refl
+
+  over-at : (u v : ℕ) → wordEdge W u v ≡ true → (takesPart t u ≡ true) × (takesPart t v ≡ true) × ((holdsStrong T u v || holdsIn t wk u v) ≡ true)
+  over-at u v e =
       let l = W-low u v e in
-      let p = and-true (takesPart t u) _ (sym (held-part wk u v) ∙ sym (words-edge (slotHeld (t .slots) N wk) u v (l .0) (l .1)) ∙ e) in
+      let p = and-true (takesPart t u) _ (sym (over-part u v) ∙ sym (words-edge over u v (l .0) (l .1)) ∙ e) in
       let q = and-true (takesPart t v) _ (p .1) in
       (p .0, q .0, q .1)
 
   at-weak : (u v : ℕ) → u < 64 → v < 64 → takesPart t u ≡ true → takesPart t v ≡ true → holdsIn t wk u v ≡ true → wordEdge W u v ≡ true
-  at-weak u v hu hv p q e = words-edge (slotHeld (t .slots) N wk) u v hu hv ∙ held-part wk u v ∙ and-intro (takesPart t u) _ p (and-intro (takesPart t v) _ q e)
+  at-weak u v hu hv p q e = words-edge over u v hu hv ∙ over-part u v ∙ and-intro (takesPart t u) _ p (and-intro (takesPart t v) _ q (or-right (holdsStrong T u v) _ e))
 
   part-in : (u : ℕ) → takesPart t u ≡ true → has u N ≡ true
   part-in u e = born-part t u ∙ e
@@ -104,7 +116,7 @@ module _ (t : Table) where
       bond-ends u v e = part-facts T u v (bond-part T u v e) .0
 
   within : (u v : ℕ) → wordEdge W u v ≡ true → has v N ≡ true
-  within u v e = part-in v (weak-at u v e .1)
+  within u v e = part-in v (over-at u v e .1)
 
   abbrev pub G : List ℕ
   G = groupWords (wordEdge J) N
@@ -145,6 +157,10 @@ module _ (t : Table) where
   bonds-lead : (u v : ℕ) → v < 64 → has v (reached (wordEdge J) u) ≡ true → Path (linkBack T) u v
   bonds-lead u v hv e = bonds-back T (reached-path (bond T) u v hv (ap (has v) (sym (same-group u)) ∙ e))
 
+  both-part : (u v : ℕ) → takesPart t u ≡ true → takesPart t v ≡ true → bothTakePart T u v ≡ true
+  unfolding bothTakePart
+  both-part u v p q = and-intro (takesPart t u) _ p q
+
   -- a link between groups is a path of links
   edge-path : (u v : ℕ) → E u v ≡ true → Path (linkBack T) u v
   unfolding groupLinks
@@ -156,8 +172,10 @@ module _ (t : Table) where
       (bonds-lead u v (l .1))
       (λ q. any-elim 64 _ (sym (has-near (wordEdge W) s v (l .1)) ∙ q) (λ m hm b.
       let c = and-true (has m s) (wordEdge W m v) b in
-      let w = weak-at m v (c .1) in
-      step (bonds-lead u m hm (c .0)) (held-link T wk m v (w .0) (w .1) (w .2))))
+      let w = over-at m v (c .1) in
+      join (bonds-lead u m hm (c .0)) (or-cases (holdsStrong T m v) (holdsIn t wk m v) (w .2)
+      (λ a. bonds-back T (step stay (bond-of T m v (both-part m v (w .0) (w .1)) (or-left (holdsStrong T m v) _ a))))
+      (λ a. step stay (held-link T wk m v (w .0) (w .1) a)))))
 
   -- and a link is a link between groups
   path-edge : (u v : ℕ) → linkBack T u v ≡ true → E u v ≡ true

@@ -39,11 +39,11 @@ pub fn potential_access(t: Table) -> Access
     let slots = t.slots;
     let born = access::start::born_outside(records, 0);
     let mut joins = [0u64; 64];
-    let mut weak = [0u64; 64];
-    held::held_words(slots, born, false, &mut joins, &mut weak);
+    let mut over = [0u64; 64];
+    held::held_words(slots, born, false, &mut joins, &mut over);
     let mut groups = [0u64; 64];
     let mut links = [0u64; 64];
-    let leading = leads::group_words(&joins, &weak, born, &mut groups, &mut links);
+    let leading = leads::group_words(&joins, &over, born, &mut groups, &mut links);
     let led = leads::led_words(&groups, &links, born, leading);
     let rows = laid_out(&groups, &led);
     Access {

@@ -1,7 +1,7 @@
 -- The slots of one holder, gone through one by one: after all eight, the numbers noted are those over which it holds the rights asked
 -- for. Assumes nothing.
 use mathlib.Core.Path.{_≡_, refl, sym, _∙_, ap, ap₂}
-use mathlib.Core.Bool.{Bool, true, false, _&&_, _||_}
+use mathlib.Core.Bool.{Bool, true, false, not, _&&_, _||_}
 use mathlib.Core.List.{List}
 use Prim.Native.Nat.{ℕ, zero, suc, _+_, _*_, _<_}
 use native.Mathlib.Numerals.{add-one}
@@ -20,7 +20,7 @@ use Rattle.links.specs.Links.{wordsOf, slotHeld, slotHolding}
 use Rattle.links.specs.Helpers.{edgeIf}
 use Rattle.links.proofs.Edges.{words-same}
 use Rattle.links.proofs.Joins.{edge-more}
-use Rattle.held.specs.Helpers.{includeIf, strongOn, weakOn, joinOn}
+use Rattle.held.specs.Helpers.{slotNamed, includeIf, strongOn, weakOn, overOn, joinOn}
 
 -- booleans ---------------------------------------------------------------------------------
 any-or : (n : ℕ) (p q : ℕ → Bool) → anyBelow n (λ i. p i || q i) ≡ (anyBelow n p || anyBelow n q)
@@ -130,29 +130,36 @@ module _ (slots : List Capability) (among x : ℕ) where
         (sym (or-false (rowTo q j u)) ∙ ap (λ (t : Bool). rowTo q j u || (t && eqb u (at j .target))) (sym f) ∙ sym (row-next q j u e)))
 
   -- all eight ------------------------------------------------------------------------------------
-  -- the capability counts by one right
-  abbrev rightOn : Right → Counts
-  rightOn b c = has (c .target) among && has (bitAt b) (c .rights)
+  -- the capability counts by a test of its rights
+  abbrev testOn : (ℕ → Bool) → Counts
+  testOn p c = has (c .target) among && p (c .rights)
 
-  held-row : (b : Right) (y : ℕ) → slotHeld slots among b x y ≡ rowTo (rightOn b) 8 y
-  unfolding slotHeld
-  held-row b y = bool-ext _ _
+  test-row : (p : ℕ → Bool) (y : ℕ) → (has x among && (has y among && anyBelow 8 (λ j. eqb (at j .target) y && p (at j .rights)))) ≡ rowTo (testOn p) 8 y
+  test-row p y = bool-ext _ _
       (λ e.
-      let p = and-true (has x among) _ e in
-      let q = and-true (has y among) _ (p .1) in
-      any-elim 8 _ (q .1) (λ j h z.
-      let w = and-true (eqb (at j .target) y) (has (bitAt b) (at j .rights)) z in
+      let h = and-true (has x among) _ e in
+      let q = and-true (has y among) _ (h .1) in
+      any-elim 8 _ (q .1) (λ j l z.
+      let w = and-true (eqb (at j .target) y) (p (at j .rights)) z in
       let t = eqb-true (at j .target) y (w .0) in
-      and-intro (has x among) _ (p .0) (any-intro 8 _ j h
-      (and-intro (rightOn b (at j)) _ (and-intro (has (at j .target) among) _ (ap (λ (i : ℕ). has i among) t ∙ q .0) (w .1)) (eq-eqb y (at j .target) (sym t))))))
+      and-intro (has x among) _ (h .0) (any-intro 8 _ j l
+      (and-intro (testOn p (at j)) _ (and-intro (has (at j .target) among) _ (ap (λ (i : ℕ). has i among) t ∙ q .0) (w .1)) (eq-eqb y (at j .target) (sym t))))))
       (λ e.
-      let p = and-true (has x among) _ e in
-      any-elim 8 _ (p .1) (λ j h z.
-      let w = and-true (rightOn b (at j)) _ z in
+      let h = and-true (has x among) _ e in
+      any-elim 8 _ (h .1) (λ j l z.
+      let w = and-true (testOn p (at j)) _ z in
       let t = eqb-true y (at j .target) (w .1) in
       let c = and-true (has (at j .target) among) _ (w .0) in
-      and-intro (has x among) _ (p .0) (and-intro (has y among) _ (ap (λ (i : ℕ). has i among) t ∙ c .0)
-      (any-intro 8 _ j h (and-intro (eqb (at j .target) y) _ (eq-eqb (at j .target) y (sym t)) (c .1))))))
+      and-intro (has x among) _ (h .0) (and-intro (has y among) _ (ap (λ (i : ℕ). has i among) t ∙ c .0)
+      (any-intro 8 _ j l (and-intro (eqb (at j .target) y) _ (eq-eqb (at j .target) y (sym t)) (c .1))))))
+
+  held-row : (b : Right) (y : ℕ) → slotHeld slots among b x y ≡ rowTo (testOn (has (bitAt b))) 8 y
+  unfolding slotHeld
+  held-row b y = test-row (has (bitAt b)) y
+
+  pub named-row : (y : ℕ) → slotNamed slots among x y ≡ rowTo (overOn among) 8 y
+  unfolding slotNamed
+  named-row y = test-row (λ r. not (eqb r 0)) y
 
   row-or : (p q : Counts) (y : ℕ) → (rowTo p 8 y || rowTo q 8 y) ≡ rowTo (λ c. p c || q c) 8 y
   row-or p q y = sym (ap (λ (b : Bool). has x among && b) (any-ext 8 _ _ (λ i h. and-or (p (at i)) (q (at i)) (eqb y (at i .target))) ∙ any-or 8 _ _)
@@ -173,8 +180,8 @@ module _ (slots : List Capability) (among x : ℕ) where
 
   pub strong-row : (y : ℕ) → holdsStrong (slotHolding slots among) x y ≡ rowTo (strongOn among) 8 y
   unfolding holdsStrong
-  strong-row y = ap₂ (λ (a b : Bool). a || b) (ap₂ (λ (a b : Bool). a || b) (held-row rd y) (held-row wr y) ∙ row-or (rightOn rd) (rightOn wr) y) (held-row tx y)
-      ∙ row-or (λ c. rightOn rd c || rightOn wr c) (rightOn tx) y
+  strong-row y = ap₂ (λ (a b : Bool). a || b) (ap₂ (λ (a b : Bool). a || b) (held-row rd y) (held-row wr y) ∙ row-or (testOn (has (bitAt rd))) (testOn (has (bitAt wr))) y) (held-row tx y)
+      ∙ row-or (λ c. testOn (has (bitAt rd)) c || testOn (has (bitAt wr)) c) (testOn (has (bitAt tx))) y
       ∙ ap (λ (b : Bool). has x among && b) (any-ext 8 _ _ (λ i h. ap (λ (b : Bool). b && eqb y (at i .target))
       (once (has (at i .target) among) (has 0 (at i .rights)) (has 1 (at i .rights)) (has 3 (at i .rights)))))
     where

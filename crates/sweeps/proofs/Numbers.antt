@@ -4,16 +4,17 @@ use mathlib.Core.Path.{_≡_, refl, sym, _∙_, subst, subst⁻¹}
 use mathlib.Core.Logic.{_≢_}
 use mathlib.Core.Bool.{Bool, true, false, not, _&&_}
 use mathlib.Core.List.{List}
-use Prim.Native.Nat.{ℕ, zero, suc, _/_, _%_, _^_, _<_}
+use Prim.Native.Nat.{ℕ, zero, suc, _-_, _/_, _%_, _^_, _<_}
 use native.Mathlib.Omega.{arith}
 use lib.Count.{trailingZeros, under}
 use lib.ListN.{length, getD, set, length-set}
 use lib.Seq.{getD-set-same, getD-set-other}
-use borrow.Author.Tests.{eq-eqb, ne-eqb}
-use Rattle.mask.specs.Sets.{has, anyBelow, excluding, unionOf}
+use lib.Dec.{eqb}
+use borrow.Author.Tests.{eqb-true, eqb-false, eq-eqb, ne-eqb}
+use Rattle.mask.specs.Sets.{has, anyBelow, excluding, unionOf, commonOf}
 use Rattle.mask.proofs.Tests.{byEq, clash, bool-ext, and-true, and-intro, or-cases, or-left, or-right}
 use Rattle.mask.proofs.Below.{any-intro, any-elim}
-use Rattle.mask.proofs.Bits.{has-suc, has-zero, has-excluding, has-union, bits-lt, as-bits}
+use Rattle.mask.proofs.Bits.{has-suc, has-zero, has-excluding, has-union, bits-lt, bits-same, as-bits}
 use Rattle.relation.proofs.Reach.{count, count-lt}
 use Rattle.sweeps.specs.Helpers.{Lowest, nearOf, PutEach}
 
@@ -41,6 +42,31 @@ tz-first (suc k) n i h = tz-below k n (n % 2) i refl (tz-first k (n / 2)) h
 
 pub lowest-is : (n : ℕ) → 0 < n → n < 2 ^ 64 → Lowest n (trailingZeros 64 n)
 lowest-is n p l = let q = tz-there 64 n p l in record { low = q .0; there = q .1; first = tz-first 64 n }
+
+-- one less ---------------------------------------------------------------------------
+-- it has another digit at the lowest number, and the same digits above; below, the set has none
+one-less : (n set k : ℕ) → has n set ≡ true → ((j : ℕ) → j < n → has j set ≡ false) → (has k set && has k (set - 1)) ≡ (has k set && not (eqb k n))
+one-less zero set zero e f = let odd = eqb-true (set / 2 ^ 0 % 2) 1 e in
+    rw (e, ne-eqb ((set - 1) / 2 ^ 0 % 2) 1 (λ q. omega (arith, odd, q))) refl
+one-less zero set (suc i) e f = let odd = eqb-true (set / 2 ^ 0 % 2) 1 e in let half : (set - 1) / 2 ≡ set / 2 = omega (arith, odd) in
+    rw (ne-eqb (suc i) 0 (λ q. omega (arith, q)), has-suc i (set - 1), has-suc i set, half) (twice (has i (set / 2)))
+  where
+    twice : (b : Bool) → (b && b) ≡ (b && not false)
+    twice true = refl
+    twice false = refl
+one-less (suc n) set zero e f = rw (f 0 (omega arith)) refl
+one-less (suc n) set (suc i) e f = let odd = eqb-false (set / 2 ^ 0 % 2) 1 (f 0 (omega arith)) in
+    let half : (set - 1) / 2 ≡ set / 2 - 1 = omega (arith, odd) in
+    rw (has-suc i (set - 1), has-suc i set, half, same)
+    (one-less n (set / 2) i (sym (has-suc n set) ∙ e) (λ j h. sym (has-suc j set) ∙ f (suc j) (omega (arith, h))))
+  where
+    same : eqb (suc i) (suc n) ≡ eqb i n
+    same = byEq i n (λ q. eq-eqb (suc i) (suc n) (omega (arith, q)) ∙ sym (eq-eqb i n q))
+        (λ q. ne-eqb (suc i) (suc n) (λ z. q (omega (arith, z))) ∙ sym (ne-eqb i n q))
+
+pub less-lowest : (set r : ℕ) → r ≡ commonOf set (set - 1) → (n : ℕ) → Lowest set n → r ≡ excluding n set
+unfolding commonOf excluding
+less-lowest set r e n q = e ∙ bits-same 64 _ _ (λ k h. one-less n set k (q .there) (q .first))
 
 -- what is left -----------------------------------------------------------------------
 -- without a number that was there, fewer are left

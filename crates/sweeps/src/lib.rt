@@ -2,8 +2,9 @@
 // rounds that look at each number once.
 use links::Spread;
 ghost use mathlib.Core.Path.{_≡_};
-ghost use Prim.Native.Nat.{_<_};
+ghost use Prim.Native.Nat.{ℕ, _<_};
 ghost use lib.ListN.{length};
+ghost use Rattle.mask.specs.Sets.{excluding};
 ghost use Rattle.links.specs.Links.{wordEdge};
 ghost use Rattle.links.specs.Helpers.{spreadOf};
 ghost use Rattle.sweeps.specs.Helpers.{Lowest, nearOf, PutEach};
@@ -16,6 +17,14 @@ pub fn lowest(set: u64) -> u8
     u64::trailing_zeros(set) as u8
 }
 
+// The set without its lowest number. One less than a set differs from it in that number and in those below, of which it has none.
+pub fn beyond(set: u64) -> u64
+    requires { ⌜ 0 < set ⌝ }
+    ensures { λ r. ⌜ ((n : ℕ) → Lowest set n → r ≡ excluding n set) ⌝ }
+{
+    mask::common(set, set - 1)
+}
+
 // What is one edge from a number of a set.
 pub fn near(words: &[u64; 64], set: u64) -> u64
     ensures { λ r. ⌜ r ≡ nearOf (wordEdge (now (words .entry))) set ⌝ }
@@ -26,7 +35,7 @@ pub fn near(words: &[u64; 64], set: u64) -> u64
         let x = lowest(left);
         let word = words[x as usize];
         found = mask::union(found, word);
-        left = mask::without(left, x);
+        left = beyond(left);
     }
     found
 }
@@ -40,7 +49,7 @@ pub fn put_each(words: &mut [u64; 64], set: u64, word: u64)
     while left != 0 {
         let x = lowest(left);
         words[x as usize] = word;
-        left = mask::without(left, x);
+        left = beyond(left);
     }
 }
 

@@ -36,6 +36,7 @@ const MEMBER: u8 = 63;
 /// The tables of potential access.
 pub fn group_tables() -> Vec<NamedTable> {
     let mut tables = vec![
+        named("no object", alive(0)),
         named("one object", alive(1)),
         named("table K", busy_table()),
         named("every slot filled", filled_table()),

@@ -32,14 +32,14 @@ element-copy-out-word c = search needs
 union-requires : tie.Need-union-requires Inv-loop μ-loop
 union-requires c κs = search needs
 
-without-requires : tie.Need-without-requires Inv-loop μ-loop
-without-requires c κs = search needs
+beyond-requires : tie.Need-beyond-requires Inv-loop μ-loop
+beyond-requires c κs = search needs
 
 loop-less : tie.Need-loop-less Inv-loop μ-loop
-loop-less c = fewer-left _ _ _ (c .before .before .before .lowest .ensures) (c .without .ensures)
+loop-less c = fewer-left _ _ _ (c .before .before .before .lowest .ensures) (c .beyond .ensures _ (c .before .before .before .lowest .ensures))
 
 loop-again : tie.Need-loop-again Inv-loop μ-loop
-loop-again c = near-next _ _ _ _ _ _ _ _ (c .before .before .before .lowest .ensures) (λ y. refl) (c .before .before .before .before .before .loop .inv) (c .without .ensures) (c .before .union .ensures)
+loop-again c = near-next _ _ _ _ _ _ _ _ (c .before .before .before .lowest .ensures) (λ y. refl) (c .before .before .before .before .before .loop .inv) (c .beyond .ensures _ (c .before .before .before .lowest .ensures)) (c .before .union .ensures)
 
 returns : tie.Need-returns Inv-loop μ-loop
 returns c = near-all _ _ _ _ (omega arith) (c .before .loop .inv)
@@ -56,7 +56,7 @@ near-spec =
     mul-word
     element-copy-out-word
     union-requires
-    without-requires
+    beyond-requires
     loop-less
     loop-again
     returns)

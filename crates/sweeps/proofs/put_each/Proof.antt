@@ -27,14 +27,14 @@ mul-words c = search needs
 element-write-words : tie.Need-element-write-words Inv-loop μ-loop
 element-write-words c = search needs
 
-without-requires : tie.Need-without-requires Inv-loop μ-loop
-without-requires c κs = search needs
+beyond-requires : tie.Need-beyond-requires Inv-loop μ-loop
+beyond-requires c κs = search needs
 
 loop-less : tie.Need-loop-less Inv-loop μ-loop
-loop-less c = fewer-left _ _ _ (c .before .lowest .ensures) (c .without .ensures)
+loop-less c = fewer-left _ _ _ (c .before .lowest .ensures) (c .beyond .ensures _ (c .before .lowest .ensures))
 
 loop-again : tie.Need-loop-again Inv-loop μ-loop
-loop-again c = put-next _ _ _ _ _ _ _ (c .before .before .before .before .pre) (c .before .lowest .ensures) (c .before .before .before .loop .inv) (c .without .ensures)
+loop-again c = put-next _ _ _ _ _ _ _ (c .before .before .before .before .pre) (c .before .lowest .ensures) (c .before .before .before .loop .inv) (c .beyond .ensures _ (c .before .lowest .ensures))
 
 returns : tie.Need-returns Inv-loop μ-loop
 returns c = put-all _ _ _ _ _ (omega arith) (c .before .loop .inv)
@@ -50,7 +50,7 @@ put-each-spec =
     cast-words
     mul-words
     element-write-words
-    without-requires
+    beyond-requires
     loop-less
     loop-again
     returns)

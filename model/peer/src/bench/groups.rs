@@ -23,14 +23,14 @@ use crate::samples::list_bytes;
 const NOTE: &str = "\
 Nanoseconds a call are the least of the rounds, a ratio is the middle one of the rounds' own. The version written
 for speed takes the table where it is; a call takes it by value, and the copy is in its time. All of them check
-soundness first.
+soundness first; `scan` is `captable_sound`, which does that and nothing else.
 ";
 
 /// A side by name, with the call that it makes.
 type Side<T> = (&'static str, fn(&mut T));
 
 /// The sides of potential access. Ratios are of the first to the others.
-const ACCESS: [Side<AccessInput>; 4] = [
+const ACCESS: [Side<AccessInput>; 5] = [
     ("groups", |input| {
         black_box(&Archive.access_by_groups(black_box(&mut input.table)));
     }),
@@ -42,6 +42,9 @@ const ACCESS: [Side<AccessInput>; 4] = [
     }),
     ("model", |input| {
         black_box(&potential_access(black_box(&input.model)));
+    }),
+    ("scan", |input| {
+        black_box(Archive.sound(black_box(&mut input.table)));
     }),
 ];
 
