@@ -4,14 +4,13 @@ use mathlib.Core.Path.{_≡_}
 use mathlib.Core.Logic.{_≢_}
 use mathlib.Core.Bool.{Bool, true, false}
 use mathlib.Core.List.{List}
-use Prim.Native.Nat.{ℕ, _^_, _<_, _≤_}
+use Prim.Native.Nat.{ℕ, _^_, _<_}
 use lib.ListN.{length, getD}
 use Rattle.mask.specs.Sets.{has, unionOf}
 use Rattle.table.specs.Lists.{tabulate}
 use Rattle.relation.specs.Closure.{reached}
 use Rattle.sweeps.specs.Helpers.{nearOf}
 use Rattle.links.specs.Links.{wordEdge}
-use Rattle.leads.specs.declared.Way.{Way}
 
 -- who is joined is so either way, and is in the set
 pub record Joining (among : ℕ) (edge : ℕ → ℕ → Bool) : Type 0 where
@@ -64,18 +63,3 @@ pub record SettledWith (groups links : List ℕ) (settled x r : ℕ) (rows : Lis
   pub now : Settled groups links r rows
   pub more : (u : ℕ) → u < 64 → has u settled ≡ true → has u r ≡ true
   pub own : has x r ≡ true
-
--- a way on from a number of `left`: what it leads to is reached from there, and has every edge from whom it covers, that number among them
-pub record Leads (edge : ℕ → ℕ → Bool) (left : ℕ) (w : Way) : Type 0 where
-  pub low : w .at < 64
-  pub there : has (w .at) left ≡ true
-  pub covered : has (w .at) (w .covers) ≡ true
-  pub reach : (v : ℕ) → v < 64 → has v (w .leads) ≡ true → has v (reached edge (w .at)) ≡ true
-  pub all : (u v : ℕ) → u < 64 → v < 64 → has u (w .covers) ≡ true → edge u v ≡ true → has v (w .leads) ≡ true
-
--- the first numbers of a path are each in a group
-pub record Along (groups : List ℕ) (depth : ℕ) (path : List ℕ) : Type 0 where
-  pub long : length path ≡ 64
-  pub short : depth ≤ 64
-  pub low : (i : ℕ) → i < depth → getD path i 0 < 64
-  pub part : (i : ℕ) → i < depth → has (getD path i 0) (getD groups (getD path i 0) 0) ≡ true

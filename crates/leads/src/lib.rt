@@ -1,13 +1,13 @@
 // Groups of numbers, as words: the groups that joined numbers form, the links between groups, and what these lead to. Each group is worked
 // once, and whoever is in it has its words.
 ghost use mathlib.Core.Path.{_≡_};
-ghost use mathlib.Core.Bool.{true};
+ghost use mathlib.Core.Bool.{true, false};
 ghost use Prim.Native.Nat.{ℕ, _<_};
 ghost use lib.ListN.{getD, length, replicate};
 ghost use Rattle.mask.specs.Sets.{has};
 ghost use Rattle.relation.specs.Closure.{reached};
 ghost use Rattle.links.specs.Links.{wordEdge};
-ghost use Rattle.leads.specs.Helpers.{Joining, LeadingWith, EndsThere, groupWords, groupLinks, ledWords, Leading, Settled, Leads, Along, SettledWith};
+ghost use Rattle.leads.specs.Helpers.{Joining, LeadingWith, EndsThere, groupWords, groupLinks, ledWords, Leading, Settled, SettledWith};
 
 // The group of x. Who is joined to nobody is a group alone.
 fn group_at(joins: &[u64; 64], x: u8) -> u64
@@ -59,108 +59,77 @@ pub fn group_words(
     leading
 }
 
-// A number, whom it leads to, and all those whose links are among these.
-struct Way {
-    at: u8,
-    leads: u64,
-    covers: u64,
-}
-
-// The way on from one of `left`: a settled number has its whole row, any other its links, which are those of its group.
-fn way_on(groups: &[u64; 64], links: &[u64; 64], rows: &[u64; 64], settled: u64, left: u64) -> Way
-    requires { ⌜ (0 < left) × Leading (now groups) (now links) × Settled (now groups) (now links) settled (now rows) × ((u : ℕ) → u < 64 → has u left ≡ true → has u (getD (now groups) u 0) ≡ true) ⌝ }
-    ensures { λ r. ⌜ Leads (wordEdge (now (links .entry))) left r ⌝ }
-{
-    let ready = mask::common(left, settled);
-    if ready != 0 {
-        let y = sweeps::lowest(ready);
-        let row = rows[y as usize];
-        return Way {
-            at: y,
-            leads: row,
-            covers: row,
-        };
-    }
-    let y = sweeps::lowest(left);
-    let word = links[y as usize];
-    let group = groups[y as usize];
-    Way {
-        at: y,
-        leads: word,
-        covers: group,
-    }
-}
-
-// All that links lead to from x.
-fn led_from(groups: &[u64; 64], links: &[u64; 64], rows: &[u64; 64], settled: u64, x: u8) -> u64
-    requires { ⌜ Leading (now groups) (now links) × Settled (now groups) (now links) settled (now rows) × (x < 64) × (has x (getD (now groups) x 0) ≡ true) ⌝ }
-    ensures { λ r. ⌜ r ≡ reached (wordEdge (now (links .entry))) x ⌝ }
-{
-    let mut s = links[x as usize];
-    let mut looked = groups[x as usize];
-    loop {
-        let left = mask::less(s, looked);
-        if left == 0 {
-            return s;
-        }
-        let w = way_on(groups, links, rows, settled, left);
-        s = mask::union(s, w.leads);
-        looked = mask::union(looked, w.covers);
-    }
-}
-
-// The row of x, which is that of its whole group, and the settled numbers with that group.
-fn settle(groups: &[u64; 64], links: &[u64; 64], rows: &mut [u64; 64], settled: u64, x: u8) -> u64
-    requires { ⌜ Leading (now groups) (now links) × Settled (now groups) (now links) settled (now rows) × (x < 64) × (has x (getD (now groups) x 0) ≡ true) ⌝ }
-    ensures { λ r. ⌜ SettledWith (now (groups .entry)) (now (links .entry)) settled x r (now (rows .exit)) ⌝ }
-{
-    let row = led_from(groups, links, rows, settled, x);
-    let group = groups[x as usize];
-    sweeps::put_each(rows, group, row);
-    mask::union(settled, group)
-}
-
-// From x on, one number after another of those that are led to and lie in no group passed or settled: what is settled from the far end
-// back finds most of its way settled.
-fn descend(groups: &[u64; 64], links: &[u64; 64], path: &mut [u8; 64], settled: u64, x: u8) -> usize
-    requires { ⌜ Leading (now groups) (now links) × (length (now path) ≡ 64) × (x < 64) ⌝ }
-    ensures { λ r. ⌜ Along (now (groups .entry)) r (now (path .exit)) ⌝ }
-{
-    let mut seen = mask::union(settled, groups[x as usize]);
-    let mut top = x;
-    let mut depth: usize = 0;
-    while depth < 64 {
-        let next = mask::less(links[top as usize], seen);
-        if next == 0 {
-            return depth;
-        }
-        top = sweeps::lowest(next);
-        seen = mask::union(seen, groups[top as usize]);
-        path[depth] = top;
-        depth = depth + 1;
-    }
-    depth
-}
-
-// The numbers from x on, the last first, and x.
+// From x on, along a path of steps. A step is numbers that lead to each other: whom they are known to lead to, and whose links are among
+// those. One that is led to and settled gives its whole row; one that is free begins a step of its own; any other is on the path, and
+// what leads back there is one step with the step before. When nobody is left to look at, the row of a step is known. `path`, `known`
+// and `passed` have room for the steps before the last.
 fn settle_from(
     groups: &[u64; 64],
     links: &[u64; 64],
     rows: &mut [u64; 64],
+    path: &mut [u64; 64],
+    known: &mut [u64; 64],
+    passed: &mut [u64; 64],
     settled: u64,
+    unsettled: u64,
     x: u8,
 ) -> u64
-    requires { ⌜ Leading (now groups) (now links) × Settled (now groups) (now links) settled (now rows) × (x < 64) × (has x (getD (now groups) x 0) ≡ true) ⌝ }
-    ensures { λ r. ⌜ SettledWith (now (groups .entry)) (now (links .entry)) settled x r (now (rows .exit)) ⌝ }
+    requires { ⌜ Leading (now groups) (now links) × Settled (now groups) (now links) settled (now rows) × (x < 64) × (has x (getD (now groups) x 0) ≡ true) × ((u : ℕ) → u < 64 → has u (getD (now groups) u 0) ≡ true → has u settled ≡ false → has u unsettled ≡ true) × (length (now path) ≡ 64) × (length (now known) ≡ 64) × (length (now passed) ≡ 64) ⌝ }
+    ensures { λ r. ⌜ SettledWith (now (groups .entry)) (now (links .entry)) settled x r (now (rows .exit)) × (length (now (path .exit)) ≡ 64) × (length (now (known .exit)) ≡ 64) × (length (now (passed .exit)) ≡ 64) ⌝ }
 {
-    let mut path = [0u8; 64];
-    let mut depth = descend(groups, links, &mut path, settled, x);
+    let mut objects = groups[x as usize];
+    let mut s = links[x as usize];
+    let mut looked = objects;
+    let mut free = mask::less(unsettled, objects);
     let mut done = settled;
-    while 0 < depth {
+    let mut depth: usize = 0;
+    'walk: loop {
+        let left = mask::less(s, looked);
+        let ready = mask::common(left, done);
+        if ready != 0 {
+            let z = sweeps::lowest(ready);
+            let row = rows[z as usize];
+            s = mask::union(s, row);
+            looked = mask::union(looked, row);
+            continue 'walk;
+        }
+        let fresh = mask::common(left, free);
+        if fresh != 0 {
+            let y = sweeps::lowest(fresh);
+            let group = groups[y as usize];
+            let word = links[y as usize];
+            if depth < 64 {
+                path[depth] = objects;
+                known[depth] = s;
+                passed[depth] = looked;
+                depth = depth + 1;
+                objects = group;
+                s = word;
+                looked = group;
+                free = mask::less(free, group);
+                continue 'walk;
+            }
+            s = mask::union(s, word);
+            looked = mask::union(looked, group);
+            continue 'walk;
+        }
+        if left != 0 {
+            depth = depth - 1;
+            objects = mask::union(objects, path[depth]);
+            s = mask::union(s, known[depth]);
+            looked = mask::union(looked, passed[depth]);
+            continue 'walk;
+        }
+        sweeps::put_each(rows, objects, s);
+        done = mask::union(done, objects);
+        if depth == 0 {
+            return done;
+        }
         depth = depth - 1;
-        done = settle(groups, links, rows, done, path[depth]);
+        objects = path[depth];
+        looked = mask::union(s, passed[depth]);
+        s = mask::union(s, known[depth]);
     }
-    settle(groups, links, rows, done, x)
 }
 
 // Word x: all that links between groups lead to from x, for the numbers of a set. Where a group does not lead on, it is the row itself.
@@ -169,11 +138,24 @@ pub fn led_words(groups: &[u64; 64], links: &[u64; 64], among: u64, leading: u64
     ensures { λ r. ⌜ r ≡ ledWords (wordEdge (now (links .entry))) among ⌝ }
 {
     let mut rows = *groups;
+    let mut path = [0u64; 64];
+    let mut known = [0u64; 64];
+    let mut passed = [0u64; 64];
     let mut settled = mask::less(among, leading);
     let mut left = mask::less(among, settled);
     while left != 0 {
         let x = sweeps::lowest(left);
-        settled = settle_from(groups, links, &mut rows, settled, x);
+        settled = settle_from(
+            groups,
+            links,
+            &mut rows,
+            &mut path,
+            &mut known,
+            &mut passed,
+            settled,
+            left,
+            x,
+        );
         left = mask::less(among, settled);
     }
     rows
