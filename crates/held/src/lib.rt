@@ -17,7 +17,7 @@ pub struct Holds {
 
 // One capability more of the holder x, with some right. Its target is joined to x by rd, wr or tx, and by wk where that joins too. Whether
 // the targets are in a set is asked of all of them at once, when the last is noted.
-fn noted(h: Holds, joins: &mut [u64; 64], weakly: bool, x: u8, c: Capability) -> Holds
+pub fn noted(h: Holds, joins: &mut [u64; 64], weakly: bool, x: u8, c: Capability) -> Holds
     requires { ⌜ x < 64 ⌝ }
     ensures { λ r. ⌜ Noted weakly x c h r (now (joins .entry)) (now (joins .exit)) ⌝ }
 {

@@ -76,7 +76,7 @@ pub fn record_sound(r: Record) -> bool
 }
 
 // Is the maker as a sound table has it? `born` are the born numbers.
-fn maker_sound(r: Record, born: u64) -> bool
+pub fn maker_sound(r: Record, born: u64) -> bool
     ensures { λ x. ⌜ x ≡ makerSound r (hasBit (r .maker) born) ⌝ }
 {
     if r.maker == 64 {

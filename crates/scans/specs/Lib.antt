@@ -1,0 +1,2 @@
+-- What this crate says: helpers alone.
+pub mod Helpers
