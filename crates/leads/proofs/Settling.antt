@@ -1,13 +1,13 @@
 -- Sets that are joined and taken apart, and rows that are settled, from the first to the last. Assumes nothing.
 use mathlib.Core.Path.{_≡_, refl, sym, _∙_, ap, subst, subst⁻¹}
-use mathlib.Core.Bool.{Bool, true, false, not, _&&_}
+use mathlib.Core.Bool.{Bool, true, false, not}
 use mathlib.Core.List.{List}
 use Prim.Native.Nat.{ℕ, _-_, _^_, _<_}
 use lib.ListN.{getD}
 use borrow.Author.Tests.{not-true}
 use Rattle.mask.specs.Sets.{has, unionOf, lessOf}
 use Rattle.mask.proofs.Tests.{byCases, clash, and-true, and-intro, or-cases, or-left, or-right, or-none}
-use Rattle.mask.proofs.Bits.{has-zero, has-union, has-less, bits-lt, as-bits}
+use Rattle.mask.proofs.Bits.{has-zero, has-union, has-less, bits-lt}
 use Rattle.table.proofs.Lists.{as-tabulate}
 use Rattle.relation.specs.Closure.{reached}
 use Rattle.relation.proofs.Reach.{count, count-lt}
@@ -48,15 +48,6 @@ union-fits a b m n = subst⁻¹ (λ (i : ℕ). i < 2 ^ 64) n (bits-lt 64 _)
 pub less-count : (a b m n : ℕ) → m ≡ lessOf a b → n < 64 → has n a ≡ true → has n b ≡ true → count 64 m < count 64 a
 less-count a b m n e h p q = count-lt 64 m a n (λ k hk o. in-less k a b m hk e o .0) h
     (byCases (has n m) (λ o. clash q (in-less n a b m h e o .1)) (λ o. o)) p
-
--- the whole set, where nothing is taken from it
-pub none-less : (a : ℕ) → a < 2 ^ 64 → a ≡ lessOf a 0
-unfolding lessOf
-none-less a l = as-bits 64 a _ l (λ k h. sym (rw (has-zero k) (all-of (has k a))))
-  where
-    all-of : (b : Bool) → (b && true) ≡ b
-    all-of true = refl
-    all-of false = refl
 
 -- where more is taken from a set, x among it, a number less is left
 pub fewer-among : (a b c m n x : ℕ) → m ≡ lessOf a b → n ≡ lessOf a c → ((u : ℕ) → u < 64 → has u b ≡ true → has u c ≡ true) → x < 64
