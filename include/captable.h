@@ -29,10 +29,10 @@
  *    -mabi=ms), and memcpy and memset are what C says they are.
  *
  * The archive's code, for whoever writes the interrupt handlers: it uses the registers xmm0 to xmm7, in
- * captable_access_by_groups xmm0 to xmm12 and in captable_chain xmm0 to xmm13, for moves, bits and whole numbers,
- * with no floating-point arithmetic; a handler that makes a call saves them first, with the other registers that a
- * C function may change. It keeps nothing below the stack pointer (no red zone), so handlers may run on the same
- * stack without leaving 128 bytes free for it.
+ * captable_chain xmm0 to xmm13, for moves, bits and whole numbers, with no floating-point arithmetic; a handler
+ * that makes a call saves them first, with the other registers that a C function may change. It keeps nothing
+ * below the stack pointer (no red zone), so handlers may run on the same stack without leaving 128 bytes free
+ * for it.
  */
 #ifndef CAPTABLE_H
 #define CAPTABLE_H
@@ -106,9 +106,9 @@ extern "C" {
 #define CAPTABLE_STACK_STEP_BY_VALUE 10536
 #define CAPTABLE_STACK_SOUND 4200
 #define CAPTABLE_STACK_ACCESS 8328
-#define CAPTABLE_STACK_ACCESS_BY_GROUPS 8264
+#define CAPTABLE_STACK_ACCESS_BY_GROUPS 13464
 #define CAPTABLE_STACK_TEST 8904
-#define CAPTABLE_STACK_TEST_BY_GROUPS 5784
+#define CAPTABLE_STACK_TEST_BY_GROUPS 9432
 #define CAPTABLE_STACK_CHAIN 10552
 #define CAPTABLE_STACK_READ 11464
 #define CAPTABLE_STACK_IMPORT 7240
@@ -117,7 +117,7 @@ extern "C" {
 #define CAPTABLE_STACK_CONFINE 11544
 #define CAPTABLE_STACK_UNBORN 3112
 #define CAPTABLE_STACK_VERSION 8
-#define CAPTABLE_STACK_MOST 12616
+#define CAPTABLE_STACK_MOST 13464
 
 /* ---- values --------------------------------------------------------------------------------------- */
 
@@ -416,7 +416,7 @@ CAPTABLE_ANSWER captable_relation captable_access(captable_table table);
  * every capability that is held in the table gives one.
  *
  * Which of the two to take: by groups it is the shorter way on every table that was measured, many times so on a full
- * one. captable_access goes by document 01's rules one by one. Times are in docs/PERFORMANCE.md.
+ * one, and takes more stack. captable_access goes by document 01's rules one by one. Times are in docs/PERFORMANCE.md.
  */
 CAPTABLE_ANSWER captable_relation captable_access_by_groups(captable_table table);
 
@@ -444,7 +444,7 @@ CAPTABLE_ANSWER captable_finding captable_test(captable_table table, uint64_t me
  * non-members and the stand-in, which is in the place of all members and holds exactly the list. It is found in one
  * walk along links from the stand-in, which counts the rounds too.
  *
- * Which of the two to take: by groups it is the shorter way for every test that was measured, and takes less stack.
+ * Which of the two to take: by groups it is the shorter way for every test that was measured, and takes more stack.
  * captable_test goes round by round over all that is there. Times are in docs/PERFORMANCE.md.
  */
 CAPTABLE_ANSWER captable_finding captable_test_by_groups(captable_table table, uint64_t members, const uint8_t *list,

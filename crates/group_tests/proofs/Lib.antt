@@ -1,6 +1,4 @@
 -- The bound by groups as by the rules, and the laws that the proofs cite.
 pub mod Exact
 pub mod Members
-pub mod Outside
-pub mod Linking
 pub mod Found

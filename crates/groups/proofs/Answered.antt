@@ -1,13 +1,16 @@
 -- What the call asks of its helpers, and what it answers of a sound table. Assumes nothing.
 use mathlib.Core.Path.{◌≡◌, refl, sym, ◌∙◌, ap}
-use mathlib.Core.Bool.{Bool, true, false, ◌&&◌, ◌||◌}
+use mathlib.Core.Bool.{Bool, true, false, not, ◌&&◌, ◌||◌}
 use mathlib.Core.List.{List}
-use Prim.Native.Nat.{ℕ, zero, suc, ◌/◌, ◌%◌, ◌<◌}
+use Prim.Native.Nat.{ℕ, zero, suc, ◌/◌, ◌%◌, ◌≤◌, ◌<◌}
 use native.Mathlib.Omega.{arith}
 use lib.Dec.{eqb}
 use lib.ListN.{get_or}
-use Rattle.mask.specs.Sets.{has, union_of}
-use Rattle.mask.proofs.Below.{any_ext}
+use borrow.Author.Tests.{eqb-true, eqb-false, ne_eqb, not-true}
+use Rattle.mask.specs.Sets.{has, all_below}
+use Rattle.mask.proofs.Tests.{by_cases, by_eq, clash, and_true, or_cases}
+use Rattle.mask.proofs.Below.{all_at, any_elim, any_ext}
+use Rattle.mask.proofs.Bits.{has_zero}
 use Rattle.table.specs.declared.Table.{Table}
 use Rattle.table.specs.Cells.{slot_at, has_wk}
 use Rattle.table.specs.Soundness.{sound}
@@ -15,28 +18,49 @@ use Rattle.table.proofs.Cells.{Sized}
 use Rattle.table.proofs.SoundFacts.{sound_facts}
 use Rattle.table.proofs.Lists.{length_tabulate, get_d_tabulate, as_tabulate}
 use Rattle.relation.specs.Relation.{rd, wr, wk, tx, table_holding, right_at}
-use Rattle.relation.specs.Closure.{reached, bond, holds_strong, row_of}
+use Rattle.relation.specs.Closure.{holds_strong, row_of}
 use Rattle.access.specs.declared.AccessReply.TheVariants.{Done}
+use Rattle.relation.proofs.Tables.{takes_part_lem}
 use Rattle.access.specs.Answers.{born_outside, access_of}
+use Rattle.access.proofs.TableWords.{outside_intro}
 use Rattle.links.specs.Links.{words_of, word_edge, slot_held, slot_holding, has_strong}
 use Rattle.links.proofs.Edges.{words_same}
-use Rattle.sweeps.specs.Helpers.{near_of}
-use Rattle.held.specs.Helpers.{slot_named}
+use Rattle.held.specs.Helpers.{joins_either, slot_named, held_astray}
 use Rattle.held.proofs.Slots.{named_row, join_row}
-use Rattle.held.proofs.Filled.{some_right}
-use Rattle.leads.specs.Helpers.{words_among, group_words, group_links, led_words, Leading}
+use Rattle.leads.specs.Helpers.{Joining, group_words, group_links, led_words, Leading}
 use Rattle.groups.specs.Helpers.{row_at, laid_out}
-use Rattle.groups.proofs.Links.{N, J, W, G, L, leads_on, own, same_group, group_row, led_row}
+use Rattle.groups.proofs.Links.{N, J, W, G, L, joining, leads_on, own, group_row, led_row}
 
--- the words that the code has, one after another; `edge` is what is joined, as the code has it
-pub record Worked (t : Table) (n : ℕ) (edge : ℕ → ℕ → Bool) (ws gs ls : List ℕ) : Type 0 where
+-- the words that the code has, one after another
+pub record Worked (t : Table) (n : ℕ) (js ws gs ls : List ℕ) : Type 0 where
   pub born : n ≡ born_outside t.records 0
-  pub joins : (x : ℕ) → x < 64 → reached edge x ≡ reached (bond (table_holding t)) x
+  pub joins : js ≡ words_of (joins_either false (slot_holding t.slots n))
   pub over : ws ≡ words_of (λ x y. holds_strong (slot_holding t.slots n) x y || slot_held t.slots n wk x y)
-  pub groups : gs ≡ group_words edge n
-  pub links : ls ≡ group_links edge (word_edge ws) n
+  pub groups : gs ≡ group_words (word_edge js) n
+  pub links : ls ≡ group_links (word_edge js) (word_edge ws) n
 
--- on a sound table what is named is held
+pub joined_words : (t : Table) (n : ℕ) (joins : List ℕ) → n ≡ born_outside t.records 0 → joins ≡ words_of (joins_either false (slot_holding t.slots n))
+    → Joining n (word_edge joins)
+joined_words t n joins e f = rw (f, e) (joining t)
+
+-- on a sound table nothing is held over an unborn number
+pub none_astray : (t : Table) (b r : Bool) (n : ℕ) → Sized t → b ≡ sound t → b ≡ true → n ≡ born_outside t.records 0 → r ≡ held_astray t.slots n → r ≡ false
+unfolding held_astray
+none_astray t b r n z s e o h =
+    let d = sound_facts t z (sym s ∙ e) in
+    by_cases r (λ y. any_elim 64 _ (sym h ∙ y) (λ x hx a. any_elim 8 _ (and_true (has x n) _ a).1 (λ j hj c.
+    let q = and_true (not (eqb (slot_at t x j).rights 0)) _ c in
+    let k = takes_part_lem t d (slot_at t x j).target ((d.slots x j hj).named (omega (arith, eqb-false (slot_at t x j).rights 0 (not-true _ q.0)))) in
+    clash (ap (has (slot_at t x j).target) o ∙ outside_intro t 0 (slot_at t x j).target k (has_zero (slot_at t x j).target)) (not-true _ q.1))))
+    (λ y. y)
+
+-- some right is rd, wr or tx, or wk
+some_right : (r : ℕ) → r ≤ 15 → not (eqb r 0) ≡ (has_strong r || has_wk r)
+unfolding all_below
+some_right r h = by_eq r 0 (λ z. rw z refl) (λ z. rw (ne_eqb r 0 z)
+    (sym (or_cases (eqb r 0) (has_strong r || has_wk r) (all_at 16 (λ k. eqb k 0 || (has_strong k || has_wk k)) refl r (omega arith)) (λ e. absurd (z (eqb-true r 0 e))) (λ e. e))))
+
+-- so on a sound table what is named is held
 pub named_held : (t : Table) (b : Bool) (n : ℕ) (ws : List ℕ) → Sized t → b ≡ sound t → b ≡ true → ws ≡ words_of (slot_named t.slots n)
     → ws ≡ words_of (λ x y. holds_strong (slot_holding t.slots n) x y || slot_held t.slots n wk x y)
 named_held t b n ws z s e f =
@@ -51,26 +75,18 @@ named_held t b n ws z s e f =
     two true a b = refl
     two false a b = refl
 
--- words of numbers of a set, by a word for each
-among_same : (n : ℕ) (f g : ℕ → ℕ) → ((x : ℕ) → x < 64 → f x ≡ g x) → words_among n f ≡ words_among n g
-among_same n f g same =
-    let word : (ℕ → ℕ) → ℕ → ℕ = λ h x. elim (has x n) as (λ b. ℕ) [ true ↦ h x | false ↦ 0 ] in
-    as_tabulate 64 _ 0 _ (length_tabulate 64 (word f)) (λ x h. get_d_tabulate 64 (word f) x 0 h ∙ ap (λ (m : ℕ). elim (has x n) as (λ b. ℕ) [ true ↦ m | false ↦ 0 ]) (same x h))
-
-module _ (t : Table) (n : ℕ) (edge : ℕ → ℕ → Bool) (ws gs ls : List ℕ) (p : Worked t n edge ws gs ls) where
-  reach : (x : ℕ) → x < 64 → reached edge x ≡ reached (word_edge (J t)) x
-  reach x h = p.joins x h ∙ sym (same_group t x)
+module _ (t : Table) (n : ℕ) (js ws gs ls : List ℕ) (p : Worked t n js ws gs ls) where
+  joins_are : js ≡ J t
+  joins_are = p.joins ∙ ap (λ (m : ℕ). words_of (joins_either false (slot_holding t.slots m))) p.born
 
   over_are : ws ≡ W t
   over_are = p.over ∙ ap (λ (m : ℕ). words_of (λ x y. holds_strong (slot_holding t.slots m) x y || slot_held t.slots m wk x y)) p.born
 
   groups_are : gs ≡ G t
-  unfolding group_words
-  groups_are = p.groups ∙ ap (λ (m : ℕ). group_words edge m) p.born ∙ among_same (N t) (reached edge) (reached (word_edge (J t))) reach
+  groups_are = p.groups ∙ rw (joins_are, p.born) refl
 
   links_are : ls ≡ L t
-  unfolding group_links
-  links_are = p.links ∙ ap (λ (w : List ℕ). group_links edge (word_edge w) n) over_are ∙ ap (group_links edge (word_edge (W t))) p.born ∙ among_same (N t) _ _ (λ x h. ap (λ (m : ℕ). union_of m (near_of (word_edge (W t)) m)) (reach x h))
+  links_are = p.links ∙ rw (joins_are, over_are, p.born) refl
 
   pub leading_words : Leading gs ls
   leading_words = rw (groups_are, links_are) (leads_on t)

@@ -1,7 +1,6 @@
 -- By groups as by the rules, and the laws that the proofs cite.
 pub mod Exact
 pub mod Laid
-pub mod Bonds
 pub mod Links
 pub mod Held
 pub mod Answered

@@ -131,7 +131,7 @@ module _ (t : Table) where
   own = own_group (word_edge J) (word_edge W) N joining
 
   -- the groups ------------------------------------------------------------------------------------------
-  pub same_group : (x : ℕ) → reached (word_edge J) x ≡ reached (bond T) x
+  same_group : (x : ℕ) → reached (word_edge J) x ≡ reached (bond T) x
   same_group = reached_same (word_edge J) (bond T) joins_bond
 
   -- the word of a number of the set, by whether it takes part

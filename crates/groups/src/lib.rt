@@ -29,26 +29,22 @@ fn laid_out(groups: &[u64; 64], led: &[u64; 64]) -> [u64; 256]
 pub fn potential_access(t: Table) -> Access
     ensures { result ≡ access_of t }
 {
-    let mut joins = [0u64; 64];
-    let mut over = [0u64; 64];
-    let found = scans::scan_joined(t, &mut joins, &mut over);
-    if !found.sound {
+    if !table::is_sound(t) {
         return Access {
             reply: AccessReply::TableUnsound,
             rows: [0; 256],
         };
     }
-    let born = found.born;
+    let records = t.records;
+    let slots = t.slots;
+    let born = access::start::born_outside(records, 0);
+    let mut joins = [0u64; 64];
+    let mut over = [0u64; 64];
+    held::held_words(slots, born, false, &mut joins, &mut over);
     let mut groups = [0u64; 64];
-    let leading = leads::group_words(
-        &joins,
-        &mut over,
-        born,
-        found.joined,
-        found.most,
-        &mut groups,
-    );
-    let led = leads::led_words(&groups, &over, born, leading, &mut joins);
+    let mut links = [0u64; 64];
+    let leading = leads::group_words(&joins, &over, born, &mut groups, &mut links);
+    let led = leads::led_words(&groups, &links, born, leading);
     let rows = laid_out(&groups, &led);
     Access {
         reply: AccessReply::Done,

@@ -1,5 +1,3 @@
 -- The laws that the proofs cite.
 pub mod Slots
-pub mod Everyone
-pub mod Gathering
-pub mod Filled
+pub mod Passed

@@ -2,6 +2,5 @@
 pub mod Reaching
 pub mod Settling
 pub mod Walking
-pub mod Words
-pub mod Flooding
 pub mod Grouping
+pub mod Words

@@ -1,31 +1,20 @@
 -- What is reached: from two numbers that lead to each other it is the same; and a set that has x, has nothing that is not reached from x
--- and loses no edge is all that is reached from x. Where edges go either way, whoever is reached reaches back. Assumes nothing.
-use mathlib.Core.Path.{◌≡◌, refl, sym, ◌∙◌, ap}
+-- and loses no edge is all that is reached from x. Assumes nothing.
+use mathlib.Core.Path.{◌≡◌, ◌∙◌, ap}
 use mathlib.Core.Bool.{Bool, true}
 use mathlib.Core.List.{List}
 use Prim.Native.Nat.{ℕ, ◌^◌, ◌<◌}
 use native.Mathlib.Omega.{arith}
 use lib.Dec.{ltb}
 use lib.ListN.{length, get_or, get_or-eq_default}
-use borrow.Author.Tests.{eqb-true, eq-eqb, ltb-true, ltb-false}
+use borrow.Author.Tests.{ltb-true, ltb-false}
 use Rattle.mask.specs.Sets.{has}
 use Rattle.mask.proofs.Tests.{by_cases, clash, bool_ext}
 use Rattle.mask.proofs.Bits.{bits_ext, has_zero}
-use Rattle.relation.specs.Closure.{only, reached}
-use Rattle.relation.proofs.Reach.{Path, stay, step, join, has_only, only_lt, reached_lt, reached_path, path_reached}
+use Rattle.relation.specs.Closure.{reached}
+use Rattle.relation.proofs.Reach.{Path, stay, step, join, reached_lt, reached_path, path_reached}
 use Rattle.access.proofs.Marks.{has_low}
 use Rattle.links.specs.Links.{word_edge}
-use Rattle.leads.specs.Helpers.{Joining}
-
--- x alone has x and nobody else
-pub only_own : (x : ℕ) → x < 64 → has x (only x) ≡ true
-only_own x h = has_only (λ u v. true) x x h ∙ eq-eqb x x refl
-
-pub only_has : (x v : ℕ) → v < 64 → has v (only x) ≡ true → v ≡ x
-only_has x v h e = eqb-true v x (sym (has_only (λ u w. true) x v h) ∙ e)
-
-pub only_fits : (x : ℕ) → only x < 2 ^ 64
-only_fits x = only_lt (λ u v. true) x
 
 -- edges of words are between numbers below 64
 pub word_low : (words : List ℕ) → length words ≡ 64 → ((u : ℕ) → get_or words u 0 < 2 ^ 64) → (u v : ℕ) → word_edge words u v ≡ true → (u < 64) × (v < 64)
@@ -63,23 +52,3 @@ module _ (edge : ℕ → ℕ → Bool) (low : (u v : ℕ) → edge u v ≡ true 
       → ((u v : ℕ) → u < 64 → v < 64 → has u s ≡ true → edge u v ≡ true → has v s ≡ true) → s ≡ reached edge x
   as_reached x s l own from closed = bits_ext 64 s _ l (reached_lt edge x) (λ v hv. bool_ext _ _ (from v hv)
       (reach_keeps (λ u. has u s ≡ true) (λ u w p e. closed u w (low u w e).0 (low u w e).1 p e) x v hv own))
-
--- where edges go either way, between numbers of a set
-module _ (edge : ℕ → ℕ → Bool) (among : ℕ) (j : Joining among edge) where
-  pub low : (u v : ℕ) → edge u v ≡ true → (u < 64) × (v < 64)
-  low u v e = ((j.within u v e).0, (j.within v u (j.either u v e)).0)
-
-  back : {x y : ℕ} → Path edge x y → Path edge y x
-  back stay = stay
-  back (step {y = u} {z = v} p e) = join (step stay (j.either u v e)) (back p)
-
-  -- whoever is reached from x reaches x
-  reach_back : (x y : ℕ) → x < 64 → y < 64 → has y (reached edge x) ≡ true → has x (reached edge y) ≡ true
-  reach_back x y hx hy e = path_reached edge low y x hy (back (reached_path edge x y hy e))
-
-  pub group_same : (x y : ℕ) → x < 64 → y < 64 → has y (reached edge x) ≡ true → reached edge x ≡ reached edge y
-  group_same x y hx hy e = reach_same edge low x y hx hy e (reach_back x y hx hy e)
-
-  -- and is in the set, if x is
-  pub group_within : (x y : ℕ) → y < 64 → has x among ≡ true → has y (reached edge x) ≡ true → has y among ≡ true
-  group_within x y hy p e = reach_keeps edge low (λ u. has u among ≡ true) (λ u v q f. (j.within v u (j.either u v f)).1) x y hy p e

@@ -2,17 +2,17 @@
 use mathlib.Core.Path.{◌≡◌, refl, sym, ◌∙◌, ap, subst, subst⁻¹}
 use mathlib.Core.Bool.{Bool, true, false, not}
 use mathlib.Core.List.{List}
-use Prim.Native.Nat.{ℕ, ◌^◌, ◌<◌}
+use Prim.Native.Nat.{ℕ, ◌-◌, ◌^◌, ◌<◌}
 use lib.ListN.{get_or}
 use borrow.Author.Tests.{not-true}
-use Rattle.mask.specs.Sets.{has, union_of, common_of, less_of}
+use Rattle.mask.specs.Sets.{has, union_of, less_of}
 use Rattle.mask.proofs.Tests.{by_cases, clash, and_true, and_intro, or_cases, or_left, or_right, or_none}
-use Rattle.mask.proofs.Bits.{has_zero, has_union, has_common, has_less, bits_lt}
-use Rattle.table.proofs.Lists.{as_tabulate, get_d_tabulate}
+use Rattle.mask.proofs.Bits.{has_zero, has_union, has_less, bits_lt}
+use Rattle.table.proofs.Lists.{as_tabulate}
 use Rattle.relation.specs.Closure.{reached}
 use Rattle.relation.proofs.Reach.{count, count_lt}
 use Rattle.links.specs.Links.{word_edge}
-use Rattle.leads.specs.Helpers.{EndsThere, links_from, led_words, Leading, Settled}
+use Rattle.leads.specs.Helpers.{EndsThere, led_words, Leading, Settled}
 use Rattle.leads.proofs.Reaching.{word_low, reach_edge, reach_keeps, as_reached}
 
 -- who is in one of two sets, in one and not in the other, in both --------------------------------
@@ -36,12 +36,6 @@ in_less v a b m h n e =
 pub less_in : (v a b m : ℕ) → v < 64 → m ≡ less_of a b → has v a ≡ true → has v b ≡ false → has v m ≡ true
 less_in v a b m h n e f = ap (has v) n ∙ has_less v a b h ∙ and_intro (has v a) (not (has v b)) e (ap not f)
 
-pub in_common : (v a b m : ℕ) → v < 64 → m ≡ common_of a b → has v m ≡ true → (has v a ≡ true) × (has v b ≡ true)
-in_common v a b m h n e = and_true (has v a) (has v b) (sym (has_common v a b h) ∙ subst (λ (i : ℕ). has v i ≡ true) n e)
-
-pub common_in : (v a b m : ℕ) → v < 64 → m ≡ common_of a b → has v a ≡ true → has v b ≡ true → has v m ≡ true
-common_in v a b m h n e f = ap (has v) n ∙ has_common v a b h ∙ and_intro (has v a) (has v b) e f
-
 -- nothing is left: the first is in the second
 pub less_none : (v a b m : ℕ) → v < 64 → m ≡ less_of a b → m ≡ 0 → has v a ≡ true → has v b ≡ true
 less_none v a b m h n z e = by_cases (has v b) (λ f. f) (λ f. clash (less_in v a b m h n e f) (ap (has v) z ∙ has_zero v))
@@ -61,11 +55,6 @@ pub fewer_among : (a b c m n x : ℕ) → m ≡ less_of a b → n ≡ less_of a 
 fewer_among a b c m n x e f more h p q = count_lt 64 n m x
     (λ k hk o. let z = in_less k a c n hk f o in less_in k a b m hk e z.0 (by_cases (has k b) (λ y. clash (more k hk y) z.1) (λ y. y)))
     h (by_cases (has x n) (λ o. clash q (in_less x a c n h f o).1) (λ o. o)) p
-
--- a group with what stands at its number
-pub link_at : (groups over : List ℕ) (x s : ℕ) → x < 64 → s ≡ union_of (get_or groups x 0) (get_or over x 0) → s ≡ get_or (links_from groups over) x 0
-unfolding links_from
-link_at groups over x s h e = e ∙ sym (get_d_tabulate 64 _ x 0 h)
 
 module _ (groups links : List ℕ) (g : Leading groups links) where
   abbrev E : ℕ → ℕ → Bool
@@ -104,11 +93,3 @@ module _ (groups links : List ℕ) (g : Leading groups links) where
   settled_all among settled left rows own s n z = as_tabulate 64 _ 0 rows s.long (λ u hu. by_cases (has u among)
       (λ e. s.row u hu (less_none u among settled left hu n z e) ∙ sym (rw e refl))
       (λ e. s.rest u hu (sym (own u hu) ∙ e) ∙ sym (rw e refl)))
-
-  -- where none leads on, the rows are the groups
-  pub ends_all : (among leading : ℕ) → ((u : ℕ) → u < 64 → has u among ≡ has u (get_or groups u 0)) → EndsThere among leading groups links
-      → leading ≡ 0 → groups ≡ led_words E among
-  unfolding led_words
-  ends_all among leading own there z = as_tabulate 64 _ 0 groups g.many (λ u hu. by_cases (has u among)
-      (λ e. ends u hu (sym (own u hu) ∙ e) (there u hu e (ap (has u) z ∙ has_zero u)) ∙ sym (rw e refl))
-      (λ e. g.bare u hu (sym (own u hu) ∙ e) ∙ sym (rw e refl)))

@@ -8,9 +8,9 @@ use native.Mathlib.Omega.{arith}
 use lib.ListN.{length, get_or, set, length-set}
 use lib.Seq.{get_or-set_same, get_or-set_other}
 use Rattle.mask.specs.Sets.{has, any_below, union_of, less_of, common_of}
-use Rattle.mask.proofs.Tests.{by_cases, by_eq, clash, or_cases, or_left, or_right}
+use Rattle.mask.proofs.Tests.{by_cases, by_eq, clash, and_true, and_intro, or_cases, or_left, or_right}
 use Rattle.mask.proofs.Below.{any_intro, any_elim}
-use Rattle.mask.proofs.Bits.{has_zero, bits_lt}
+use Rattle.mask.proofs.Bits.{has_zero, has_common, bits_lt}
 use Rattle.relation.specs.Closure.{reached}
 use Rattle.relation.proofs.Reach.{count, count_lt, count_high}
 use Rattle.links.specs.Links.{word_edge}
@@ -18,12 +18,15 @@ use Rattle.sweeps.specs.Helpers.{Lowest, PutEach}
 use Rattle.sweeps.proofs.Numbers.{lowest_is}
 use Rattle.leads.specs.Helpers.{Leading, Settled, SettledWith}
 use Rattle.leads.proofs.Reaching.{word_low, reach_start, reach_edge, reach_more, reach_on, as_reached}
-use Rattle.leads.proofs.Settling.{in_union, union_left, union_right, in_neither, in_less, less_in, in_common, common_in, less_none, union_fits, less_count, reached_in}
+use Rattle.leads.proofs.Settling.{in_union, union_left, union_right, in_neither, in_less, less_in, less_none, union_fits, less_count, reached_in}
 
--- two sets that share nobody
+-- who is in both of two sets
+in_common : (v a b m : ℕ) → v < 64 → m ≡ common_of a b → has v m ≡ true → (has v a ≡ true) × (has v b ≡ true)
+in_common v a b m h n e = and_true (has v a) (has v b) (sym (has_common v a b h) ∙ subst (λ (i : ℕ). has v i ≡ true) n e)
+
 none_common : (v a b m : ℕ) → v < 64 → m ≡ common_of a b → m ≡ 0 → has v a ≡ true → has v b ≡ false
 none_common v a b m h n z e = by_cases (has v b)
-    (λ f. clash (common_in v a b m h n e f) (ap (has v) z ∙ has_zero v)) (λ f. f)
+    (λ f. clash (ap (has v) n ∙ has_common v a b h ∙ and_intro (has v a) _ e f) (ap (has v) z ∙ has_zero v)) (λ f. f)
 
 -- how much there is still to do: numbers that are free, steps before the last, numbers to look at
 abbrev pub to_do : ℕ → ℕ → ℕ → ℕ
@@ -53,8 +56,8 @@ module _ (groups links : List ℕ) (g : Leading groups links) where
     pub taken : (u v : ℕ) → u < 64 → v < 64 → has u looked ≡ true → E u v ≡ true → has v s ≡ true
 
   -- a group begins one
-  step_start : (x s : ℕ) → x < 64 → In x → s ≡ get_or links x 0 → Step (get_or groups x 0) s (get_or groups x 0)
-  step_start x s hx p n = rw n record {
+  step_start : (x : ℕ) → x < 64 → In x → Step (get_or groups x 0) (get_or links x 0) (get_or groups x 0)
+  step_start x hx p = record {
     fits = g.fits x;
     part = λ u hu e. (g.mates x u hx hu e).0;
     inside = λ v hv e. g.led x v hx hv e;
@@ -93,18 +96,18 @@ module _ (groups links : List ℕ) (g : Leading groups links) where
     pub pairs : (i j u v : ℕ) → i < j → j < depth → u < 64 → v < 64 → has u (get_or path i 0) ≡ true → has v (get_or known j 0) ≡ true → To u v
     pub visited : (z : ℕ) → z < 64 → In z → has z free ≡ false → has z done ≡ false → (has z objects || any_below depth (λ k. has z (get_or path k 0))) ≡ true
 
-  pub walk_start : (settled unsettled x s free : ℕ) (rows path known passed : List ℕ) → s ≡ get_or links x 0 → Settled groups links settled rows → x < 64 → In x
+  pub walk_start : (settled unsettled x free : ℕ) (rows path known passed : List ℕ) → Settled groups links settled rows → x < 64 → In x
       → ((u : ℕ) → u < 64 → In u → has u settled ≡ false → has u unsettled ≡ true) → length path ≡ 64 → length known ≡ 64 → length passed ≡ 64
-      → free ≡ less_of unsettled (get_or groups x 0) → Walk settled x rows path known passed (get_or groups x 0) s (get_or groups x 0) free settled 0
-  walk_start settled unsettled x s free rows path known passed k r hx p more lp lk la n = record {
+      → free ≡ less_of unsettled (get_or groups x 0) → Walk settled x rows path known passed (get_or groups x 0) (get_or links x 0) (get_or groups x 0) free settled 0
+  walk_start settled unsettled x free rows path known passed s hx p more lp lk la n = record {
     deep = omega arith;
     path_long = lp;
     known_long = lk;
     passed_long = la;
-    now = r;
+    now = s;
     kept = λ u hu e. e;
     first = (hx, p, by_cases (has x free) (λ e. clash p (in_less x unsettled (get_or groups x 0) free hx n e).1) (λ e. e));
-    step = step_start x s hx p k;
+    step = step_start x hx p;
     steps = λ i h. absurd (omega arith);
     ahead = λ i u v h. absurd (omega arith);
     pairs = λ i j u v h k. absurd (omega arith);
@@ -166,7 +169,7 @@ module _ (groups links : List ℕ) (g : Leading groups links) where
           (ap (has y) row ∙ reach_start E low y q.low)
 
     -- one that is free
-    module _ (fresh y word : ℕ) (r : fresh ≡ common_of left free) (q : Lowest fresh y) (k : word ≡ get_or links y 0) where
+    module _ (fresh y : ℕ) (r : fresh ≡ common_of left free) (q : Lowest fresh y) where
       in_both : (has y left ≡ true) × (has y free ≡ true)
       in_both = in_common y left free fresh q.low r q.there
 
@@ -176,18 +179,14 @@ module _ (groups links : List ℕ) (g : Leading groups links) where
       y_in : In y
       y_in = p.step.inside y q.low known_y
 
-      to_word : (v : ℕ) → v < 64 → has v word ≡ true → To y v
-      to_word v hv z = reach_edge E low y v (ap (has v) (sym k) ∙ z)
-
-      all_word : (u v : ℕ) → u < 64 → v < 64 → has u (get_or groups y 0) ≡ true → E u v ≡ true → has v word ≡ true
-      all_word u v hu hv z h = ap (has v) (k ∙ sym (g.mates y u q.low hu z).1) ∙ h
-
       -- looked at where it is
-      pub walk_here : (t a : ℕ) → t ≡ union_of s word → a ≡ union_of l (get_or groups y 0) → Walk settled x rows path known passed o t a free done depth
-      walk_here t a e f = last_more y word (get_or groups y 0) t a q.low in_both.0 to_word all_word e f
+      pub walk_here : (t a : ℕ) → t ≡ union_of s (get_or links y 0) → a ≡ union_of l (get_or groups y 0) → Walk settled x rows path known passed o t a free done depth
+      walk_here t a e f = last_more y (get_or links y 0) (get_or groups y 0) t a q.low in_both.0 (λ v hv z. reach_edge E low y v z)
+          (λ u v hu hv z h. ap (has v) (sym (g.mates y u q.low hu z).1) ∙ h) e f
 
-      pub less_here : (t a : ℕ) → t ≡ union_of s word → a ≡ union_of l (get_or groups y 0) → to_do free depth a < to_do free depth l
-      less_here t a e f = less_last y word (get_or groups y 0) t a q.low in_both.0 to_word all_word e f y_in
+      pub less_here : (t a : ℕ) → t ≡ union_of s (get_or links y 0) → a ≡ union_of l (get_or groups y 0) → to_do free depth a < to_do free depth l
+      less_here t a e f = less_last y (get_or links y 0) (get_or groups y 0) t a q.low in_both.0 (λ v hv z. reach_edge E low y v z)
+          (λ u v hu hv z h. ap (has v) (sym (g.mates y u q.low hu z).1) ∙ h) e f y_in
 
       -- or as a step of its own
       module _ (h : depth < 64) (b : ℕ) (e : b ≡ less_of free (get_or groups y 0)) where
@@ -219,15 +218,15 @@ module _ (groups links : List ℕ) (g : Leading groups links) where
         passed_old i k = get_or-set_other passed depth i l 0 (λ z. omega (arith, z, k))
 
         -- whoever leads to y leads to whom y leads to
-        on : (u v : ℕ) → u < 64 → To u y → has v word ≡ true → To u v
-        on u v hu z w = reach_more E low u y v hu q.low z (ap (has v) (sym k) ∙ w)
+        on : (u v : ℕ) → u < 64 → To u y → has v (get_or links y 0) ≡ true → To u v
+        on u v hu z k = reach_more E low u y v hu q.low z k
 
         on_path : (z : ℕ) → (has z o || any_below depth (λ k. has z (get_or path k 0))) ≡ true → any_below (depth + 1) (λ k. has z (get_or path' k 0)) ≡ true
         on_path z w = or_cases (has z o) _ w
             (λ a. any_intro (depth + 1) _ depth (omega arith) (ap (has z) path_at ∙ a))
             (λ a. any_elim depth _ a (λ k hk c. any_intro (depth + 1) _ k (omega (arith, hk)) (ap (has z) (path_old k hk) ∙ c)))
 
-        pub walk_push : Walk settled x rows path' known' passed' (get_or groups y 0) word (get_or groups y 0) b done (depth + 1)
+        pub walk_push : Walk settled x rows path' known' passed' (get_or groups y 0) (get_or links y 0) (get_or groups y 0) b done (depth + 1)
         walk_push = record {
           deep = omega arith;
           path_long = length-set path depth o ∙ p.path_long;
@@ -236,7 +235,7 @@ module _ (groups links : List ℕ) (g : Leading groups links) where
           now = p.now;
           kept = p.kept;
           first = (p.first.0, p.first.1, by_cases (has x b) (λ z. clash (in_less x free (get_or groups y 0) b p.first.0 e z).0 p.first.2) (λ z. z));
-          step = step_start y word q.low y_in k;
+          step = step_start y q.low y_in;
           steps = λ i k. by_eq i depth
               (λ z. rw (z, path_at, known_at, passed_at) p.step)
               (λ z. let k' : i < depth = omega (arith, k, z) in rw (path_old i k', known_old i k', passed_old i k') (p.steps i k'));

@@ -15,8 +15,9 @@ use Rattle.relation.specs.Closure.{reached}
 use Rattle.sweeps.specs.Helpers.{near_of}
 use Rattle.sweeps.proofs.Frontier.{has_near}
 use Rattle.leads.specs.Helpers.{Joining, words_among, group_words, group_links, Leading}
-use Rattle.leads.proofs.Reaching.{reach_start, low, group_same, group_within}
+use Rattle.leads.proofs.Reaching.{reach_start}
 use Rattle.leads.proofs.Settling.{in_union, union_left, union_fits}
+use Rattle.leads.proofs.Grouping.{low, group_same, group_within}
 
 -- words for the numbers of a set -----------------------------------------------------------
 module _ (among : ℕ) (word : ℕ → ℕ) where
@@ -47,7 +48,7 @@ module _ (edge weak : ℕ → ℕ → Bool) (among : ℕ) (j : Joining among edg
   pub own_group : (u : ℕ) → u < 64 → has u among ≡ has u (get_or (group_words edge among) u 0)
   unfolding group_words
   own_group u h = bool_ext _ _
-      (λ e. ap (has u) (word_in among (reached edge) u h e) ∙ reach_start edge (low edge among j) u h)
+      (λ e. ap (has u) (word_in among (reached edge) u h e) ∙ reach_start edge (low edge weak among j) u h)
       (λ e. (word_has among (reached edge) u u h e).0)
 
   module _ (within : (u v : ℕ) → weak u v ≡ true → has v among ≡ true) where
@@ -56,7 +57,7 @@ module _ (edge weak : ℕ → ℕ → Bool) (among : ℕ) (j : Joining among edg
 
     led_within : (u v : ℕ) → v < 64 → has u among ≡ true → has v (led u) ≡ true → has v among ≡ true
     led_within u v hv p e = in_union v (reached edge u) (near_of weak (reached edge u)) (led u) hv refl e
-        (group_within edge among j u v hv p)
+        (group_within edge weak among j u v hv p)
         (λ q. any_elim 64 _ (sym (has_near weak (reached edge u) v hv) ∙ q) (λ m hm b. within m v (and_true (has m (reached edge u)) _ b).1))
 
     pub leading : Leading (group_words edge among) (group_links edge weak among)
@@ -68,9 +69,9 @@ module _ (edge weak : ℕ → ℕ → Bool) (among : ℕ) (j : Joining among edg
       bare = λ u hu e. word_out among (reached edge) u hu (own_group u hu ∙ e);
       mates = λ u v hu hv e.
           let p = word_has among (reached edge) u v hu e in
-          let q = group_within edge among j u v hv p.0 p.1 in (
+          let q = group_within edge weak among j u v hv p.0 p.1 in (
             sym (own_group v hv) ∙ q,
-            word_in among led v hv q ∙ ap (λ (s : ℕ). union_of s (near_of weak s)) (sym (group_same edge among j u v hu hv p.1)) ∙ sym (word_in among led u hu p.0),
+            word_in among led v hv q ∙ ap (λ (s : ℕ). union_of s (near_of weak s)) (sym (group_same edge weak among j u v hu hv p.1)) ∙ sym (word_in among led u hu p.0),
           );
       inside = λ u v hu hv e.
           let p = word_has among (reached edge) u v hu e in

@@ -1,9 +1,9 @@
 -- Groups as words: of a set of numbers, what each is joined to through others, whom a group leads to in one step, and whom in any number of
 -- steps; and, on the way there, numbers whose rows are settled and a way on from a number.
-use Rattle.std.specs.Prelude.{◌≡◌, Bool, true, false, ◌&&◌, ◌||◌, List, ℕ, ◌^◌, ◌<◌, length, get_or}
-use Rattle.mask.specs.Sets.{has, union_of, subset_of, disjoint_of}
+use Rattle.std.specs.Prelude.{◌≡◌, ◌≢◌, Bool, true, false, List, ℕ, ◌^◌, ◌<◌, length, get_or}
+use Rattle.mask.specs.Sets.{has, union_of}
 use Rattle.table.specs.Lists.{tabulate}
-use Rattle.relation.specs.Closure.{reached, only}
+use Rattle.relation.specs.Closure.{reached}
 use Rattle.sweeps.specs.Helpers.{near_of}
 use Rattle.links.specs.Links.{word_edge}
 
@@ -11,25 +11,6 @@ use Rattle.links.specs.Links.{word_edge}
 pub record Joining (among : ℕ) (edge : ℕ → ℕ → Bool) : Type 0 where
   pub either : (u v : ℕ) → edge u v ≡ true → edge v u ≡ true
   pub within : (u v : ℕ) → edge u v ≡ true → (u < 64) × (has u among ≡ true)
-
--- an edge by words, or between two of the numbers that are known to be of one group
-abbrev pub most_edge : List ℕ → ℕ → ℕ → ℕ → Bool
-most_edge joins most u v = word_edge joins u v || (has u most && has v most)
-
--- a set, with all of another one where it has a number of it
-unfoldable pub with_most : ℕ → ℕ → ℕ
-with_most s most = elim (disjoint_of s most) [ true ↦ s | false ↦ union_of s most ]
-
--- whoever has an edge is in `joined`, which is in the set
-pub record JoinedIn (among joined : ℕ) (edge : ℕ → ℕ → Bool) : Type 0 where
-  pub all : (u v : ℕ) → edge u v ≡ true → has u joined ≡ true
-  pub within : (u : ℕ) → u < 64 → has u joined ≡ true → has u among ≡ true
-
--- words of numbers of the set alone
-pub record WordsIn (among : ℕ) (words : List ℕ) : Type 0 where
-  pub long : length words ≡ 64
-  pub fits : (u : ℕ) → get_or words u 0 < 2 ^ 64
-  pub none : (u : ℕ) → u < 64 → has u among ≡ false → get_or words u 0 ≡ 0
 
 -- a word for each number of the set, none for any other
 abbrev pub words_among : ℕ → (ℕ → ℕ) → List ℕ
@@ -42,23 +23,13 @@ group_words edge among = words_among among (reached edge)
 unfoldable pub group_links : (ℕ → ℕ → Bool) → (ℕ → ℕ → Bool) → ℕ → List ℕ
 group_links edge weak among = words_among among (λ x. union_of (reached edge x) (near_of weak (reached edge x)))
 
--- each group with what stands at its numbers
-unfoldable pub links_from : List ℕ → List ℕ → List ℕ
-links_from groups over = tabulate 64 (λ x. union_of (get_or groups x 0) (get_or over x 0))
-
 unfoldable pub led_words : (ℕ → ℕ → Bool) → ℕ → List ℕ
 led_words edge among = words_among among (reached edge)
 
--- numbers that are not among those that lead on have no other number in their word
-abbrev pub LeadsAlone : ℕ → List ℕ → Type 0
-LeadsAlone leading over = (u : ℕ) → u < 64 → has u leading ≡ false → subset_of (get_or over u 0) (only u) ≡ true
-
--- one group more, and whom its numbers' words lead to: that is put at each of them, unless it is of the group
-pub record PutLeading (leading group out r : ℕ) (before after : List ℕ) : Type 0 where
-  pub long : length after ≡ length before
-  pub old : (u : ℕ) → u < 64 → has u group ≡ false → (get_or after u 0 ≡ get_or before u 0) × (has u r ≡ has u leading)
-  pub ends : (u : ℕ) → u < 64 → has u group ≡ true → subset_of out group ≡ true → get_or after u 0 ≡ get_or before u 0
-  pub leads : (u : ℕ) → u < 64 → has u group ≡ true → subset_of out group ≡ false → (get_or after u 0 ≡ out) × (has u r ≡ true)
+-- numbers of groups that lead on, with one group more
+pub record LeadingWith (leading group led r : ℕ) : Type 0 where
+  pub kept : (u : ℕ) → u < 64 → has u leading ≡ true → has u r ≡ true
+  pub more : led ≢ group → (u : ℕ) → u < 64 → has u group ≡ true → has u r ≡ true
 
 -- a group of the set that is not among those that lead on leads to itself alone
 abbrev pub EndsThere : ℕ → ℕ → List ℕ → List ℕ → Type 0

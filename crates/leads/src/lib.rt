@@ -1,90 +1,56 @@
 // Groups of numbers, as words: the groups that joined numbers form, the links between groups, and what these lead to. Each group is worked
 // once, and whoever is in it has its words.
-ghost use Rattle.std.specs.Prelude.{◌≡◌, true, false, ℕ, ◌<◌, get_or, length};
+ghost use Rattle.std.specs.Prelude.{◌≡◌, true, false, ℕ, ◌<◌, get_or, length, replicate};
 ghost use Rattle.mask.specs.Sets.{has};
-ghost use Rattle.relation.specs.Closure.{reached, only};
+ghost use Rattle.relation.specs.Closure.{reached};
 ghost use Rattle.links.specs.Links.{word_edge};
-ghost use Rattle.leads.specs.Helpers.{most_edge, with_most, Joining, JoinedIn, WordsIn, LeadsAlone, PutLeading, EndsThere, words_among, group_words, group_links, links_from, led_words, Leading, Settled, SettledWith};
+ghost use Rattle.leads.specs.Helpers.{Joining, LeadingWith, EndsThere, group_words, group_links, led_words, Leading, Settled, SettledWith};
 
-// A set, with all of another one where it has a number of it.
-fn with_most(set: u64, most: u64) -> u64
-    ensures { result ≡ with_most set most }
+// The group of x. Who is joined to nobody is a group alone.
+fn group_at(joins: &[u64; 64], x: u8) -> u64
+    requires { x < 64 }
+    ensures { result ≡ reached (word_edge joins.now) x }
 {
-    if mask::disjoint(set, most) {
-        set
+    if joins[x as usize] == 0 {
+        return links::alone(x);
+    }
+    let spread = sweeps::spread(joins, x);
+    spread.set
+}
+
+// The numbers of groups that lead on, with one group more: it does where it leads to more than itself.
+fn leading_with(leading: u64, group: u64, led: u64) -> u64
+    ensures { LeadingWith leading group led result }
+{
+    if led == group {
+        leading
     } else {
-        mask::union(set, most)
+        mask::union(leading, group)
     }
 }
 
-// The group of x, by words and by numbers that are known to be of one group. A round looks at what the round before added; when all of the
-// set is there, nobody is left to be found.
-fn group_at(joins: &[u64; 64], most: u64, among: u64, x: u8) -> u64
-    requires { (x < 64) × (has x among ≡ true) × Joining among (most_edge joins.now most) }
-    ensures { result ≡ reached (most_edge joins.now most) x }
-{
-    let alone = links::alone(x);
-    let mut s = with_most(alone, most);
-    let mut fresh = s;
-    while (fresh != 0) & (s != among) {
-        let near = sweeps::near(joins, fresh);
-        let found = with_most(near, most);
-        fresh = mask::less(found, s);
-        s = mask::union(s, found);
-    }
-    s
-}
-
-// Every number of a set as a group by itself. Given back are the numbers that lead on: those whose word has another number.
-fn first_groups(over: &[u64; 64], among: u64, groups: &mut [u64; 64]) -> u64
-    requires { length groups.old ≡ 64 }
-    ensures { (groups.new ≡ words_among among only) × LeadsAlone result over.now }
-{
-    let mut leading: u64 = 0;
-    let mut n: usize = 0;
-    while n < 64 {
-        let own = links::alone(n as u8);
-        groups[n] = mask::common(among, own);
-        if !mask::subset(over[n], own) {
-            leading = mask::union(leading, own);
-        }
-        n = n + 1;
-    }
-    leading
-}
-
-// One group more, with whom its numbers' words lead to. Does it lead on? Then each of its numbers gets all of that as its word.
-fn put_leading(leading: u64, group: u64, out: u64, over: &mut [u64; 64]) -> u64
-    requires { length over.old ≡ 64 }
-    ensures { PutLeading leading group out result over.old over.new }
-{
-    if mask::subset(out, group) {
-        return mask::less(leading, group);
-    }
-    sweeps::put_each(over, group, out);
-    mask::union(leading, group)
-}
-
-// The groups of the numbers of a set: word x of `groups` gets the group of x, and word x of `over`, with that group, is then the group and
-// whom it leads to by a word of its numbers. `joined` has whoever is joined to anybody. Given back are numbers whose groups lead on.
+// The groups of the numbers of a set: word x of `groups` gets the group of x, word x of `links` that group and whom it leads to by a word of
+// its numbers. Given back are the numbers whose groups lead on.
 pub fn group_words(
     joins: &[u64; 64],
-    over: &mut [u64; 64],
+    weak: &[u64; 64],
     among: u64,
-    joined: u64,
-    most: u64,
     groups: &mut [u64; 64],
+    links: &mut [u64; 64],
 ) -> u64
-    requires { Joining among (most_edge joins.now most) × JoinedIn among joined (most_edge joins.now most) × WordsIn among over.old × (length groups.old ≡ 64) }
-    ensures { (groups.new ≡ group_words (most_edge joins.now most) among) × (links_from groups.new over.new ≡ group_links (most_edge joins.now most) (word_edge over.old) among) × EndsThere among result groups.new (links_from groups.new over.new) }
+    requires { Joining among (word_edge joins.now) × (groups.old ≡ replicate 64 0) × (links.old ≡ replicate 64 0) }
+    ensures { (groups.new ≡ group_words (word_edge joins.now) among) × (links.new ≡ group_links (word_edge joins.now) (word_edge weak.now) among) × EndsThere among result groups.new links.new }
 {
-    let mut leading = first_groups(over, among, groups);
-    let mut left = joined;
+    let mut leading: u64 = 0;
+    let mut left = among;
     while left != 0 {
         let x = sweeps::lowest(left);
-        let group = group_at(joins, most, among, x);
-        let out = sweeps::put_near(groups, group, group, over);
-        leading = put_leading(leading, group, out, over);
+        let group = group_at(joins, x);
+        let out = sweeps::near(weak, group);
+        let led = mask::union(group, out);
+        sweeps::put_each(groups, group, group);
+        sweeps::put_each(links, group, led);
+        leading = leading_with(leading, group, led);
         left = mask::less(left, group);
     }
     leading
@@ -96,7 +62,7 @@ pub fn group_words(
 // and `passed` have room for the steps before the last.
 fn settle_from(
     groups: &[u64; 64],
-    over: &[u64; 64],
+    links: &[u64; 64],
     rows: &mut [u64; 64],
     path: &mut [u64; 64],
     known: &mut [u64; 64],
@@ -105,29 +71,17 @@ fn settle_from(
     unsettled: u64,
     x: u8,
 ) -> u64
-    requires { Leading groups.now (links_from groups.now over.now) × Settled groups.now (links_from groups.now over.now) settled rows.old × (x < 64) × (has x (get_or groups.now x 0) ≡ true) × ((u : ℕ) → u < 64 → has u (get_or groups.now u 0) ≡ true → has u settled ≡ false → has u unsettled ≡ true) × (length path.old ≡ 64) × (length known.old ≡ 64) × (length passed.old ≡ 64) }
-    ensures { SettledWith groups.now (links_from groups.now over.now) settled x result rows.new × (length path.new ≡ 64) × (length known.new ≡ 64) × (length passed.new ≡ 64) }
+    requires { Leading groups.now links.now × Settled groups.now links.now settled rows.old × (x < 64) × (has x (get_or groups.now x 0) ≡ true) × ((u : ℕ) → u < 64 → has u (get_or groups.now u 0) ≡ true → has u settled ≡ false → has u unsettled ≡ true) × (length path.old ≡ 64) × (length known.old ≡ 64) × (length passed.old ≡ 64) }
+    ensures { SettledWith groups.now links.now settled x result rows.new × (length path.new ≡ 64) × (length known.new ≡ 64) × (length passed.new ≡ 64) }
 {
     let mut objects = groups[x as usize];
-    let mut s = mask::union(objects, over[x as usize]);
+    let mut s = links[x as usize];
     let mut looked = objects;
     let mut free = mask::less(unsettled, objects);
     let mut done = settled;
     let mut depth: usize = 0;
     'walk: loop {
         let left = mask::less(s, looked);
-        if left == 0 {
-            sweeps::put_each(rows, objects, s);
-            done = mask::union(done, objects);
-            if depth == 0 {
-                return done;
-            }
-            depth = depth - 1;
-            objects = path[depth];
-            looked = mask::union(s, passed[depth]);
-            s = mask::union(s, known[depth]);
-            continue 'walk;
-        }
         let ready = mask::common(left, done);
         if ready != 0 {
             let z = sweeps::lowest(ready);
@@ -140,7 +94,7 @@ fn settle_from(
         if fresh != 0 {
             let y = sweeps::lowest(fresh);
             let group = groups[y as usize];
-            let word = mask::union(group, over[y as usize]);
+            let word = links[y as usize];
             if depth < 64 {
                 path[depth] = objects;
                 known[depth] = s;
@@ -156,29 +110,32 @@ fn settle_from(
             looked = mask::union(looked, group);
             continue 'walk;
         }
+        if left != 0 {
+            depth = depth - 1;
+            objects = mask::union(objects, path[depth]);
+            s = mask::union(s, known[depth]);
+            looked = mask::union(looked, passed[depth]);
+            continue 'walk;
+        }
+        sweeps::put_each(rows, objects, s);
+        done = mask::union(done, objects);
+        if depth == 0 {
+            return done;
+        }
         depth = depth - 1;
-        objects = mask::union(objects, path[depth]);
+        objects = path[depth];
+        looked = mask::union(s, passed[depth]);
         s = mask::union(s, known[depth]);
-        looked = mask::union(looked, passed[depth]);
     }
 }
 
-// Word x: all that links between groups lead to from x, for the numbers of a set. Where a group does not lead on, it is the row itself. `path`
-// is room for the steps of a walk; what is in it before and after means nothing.
-pub fn led_words(
-    groups: &[u64; 64],
-    over: &[u64; 64],
-    among: u64,
-    leading: u64,
-    path: &mut [u64; 64],
-) -> [u64; 64]
-    requires { (length path.old ≡ 64) × Leading groups.now (links_from groups.now over.now) × ((u : ℕ) → u < 64 → has u among ≡ has u (get_or groups.now u 0)) × EndsThere among leading groups.now (links_from groups.now over.now) }
-    ensures { result ≡ led_words (word_edge (links_from groups.now over.now)) among }
+// Word x: all that links between groups lead to from x, for the numbers of a set. Where a group does not lead on, it is the row itself.
+pub fn led_words(groups: &[u64; 64], links: &[u64; 64], among: u64, leading: u64) -> [u64; 64]
+    requires { Leading groups.now links.now × ((u : ℕ) → u < 64 → has u among ≡ has u (get_or groups.now u 0)) × EndsThere among leading groups.now links.now }
+    ensures { result ≡ led_words (word_edge links.now) among }
 {
-    if leading == 0 {
-        return *groups;
-    }
     let mut rows = *groups;
+    let mut path = [0u64; 64];
     let mut known = [0u64; 64];
     let mut passed = [0u64; 64];
     let mut settled = mask::less(among, leading);
@@ -187,9 +144,9 @@ pub fn led_words(
         let x = sweeps::lowest(left);
         settled = settle_from(
             groups,
-            over,
+            links,
             &mut rows,
-            path,
+            &mut path,
             &mut known,
             &mut passed,
             settled,

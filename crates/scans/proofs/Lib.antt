@@ -1,5 +1,2 @@
 -- The laws that the proofs cite.
-pub mod Rows
-pub mod Words
-pub mod Bonds
 pub mod Scanning

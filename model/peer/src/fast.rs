@@ -39,17 +39,6 @@ pub fn access(table: &Table, answer: &mut Relation) {
     }
 }
 
-/// The same in the shape of a call: the table is given by value, and the answer is given back.
-#[inline(never)]
-pub fn access_called(table: Table) -> Relation {
-    let mut answer = Relation {
-        rows: [0; 256],
-        number: 0,
-    };
-    access(&table, &mut answer);
-    answer
-}
-
 /// The confinement test of the members and the bytes of a list.
 pub fn test(table: &Table, members: u64, list: &[u8]) -> Finding {
     let (bound, rounds, number) = match tested(table, members, list) {
@@ -61,12 +50,6 @@ pub fn test(table: &Table, members: u64, list: &[u8]) -> Finding {
         rounds,
         number,
     }
-}
-
-/// The same in the shape of a call: the table is given by value.
-#[inline(never)]
-pub fn test_called(table: Table, members: u64, list: &[u8]) -> Finding {
-    test(&table, members, list)
 }
 
 /// The numbers of a set, from the lowest on.

@@ -28,29 +28,27 @@ fn vectors(operands: &str) -> Vec<&str> {
 }
 
 #[test]
-fn the_registers_are_xmm0_to_xmm7_by_groups_to_xmm12_and_of_a_chain_to_xmm13() {
-    let (mut used, mut by_groups, mut by_chain) =
-        (BTreeSet::new(), BTreeSet::new(), BTreeSet::new());
+fn the_registers_are_xmm0_to_xmm7_and_of_a_chain_to_xmm13() {
+    let (mut used, mut by_chain) = (BTreeSet::new(), BTreeSet::new());
     for (name, _, operands) in instructions() {
         let registers = vectors(&operands).into_iter().map(String::from);
-        match name.as_str() {
-            "captable_access_by_groups" => by_groups.extend(registers),
-            "captable_chain" => by_chain.extend(registers),
-            _ => used.extend(registers),
+        if name == "captable_chain" {
+            by_chain.extend(registers);
+        } else {
+            used.extend(registers);
         }
     }
     let first = |count: u8| (0..count).map(|k| format!("xmm{k}")).collect();
     assert_eq!(used, first(8));
-    assert_eq!(by_groups, first(13));
     assert_eq!(by_chain, first(14));
 }
 
 #[test]
 fn vectors_are_moved_and_whole_numbers_alone() {
     // Moves, shuffles and bit operations; all that begins with p is on whole numbers.
-    const OTHERS: [&str; 14] = [
-        "movaps", "movups", "movapd", "movupd", "movsd", "movdqa", "movdqu", "movd", "movq",
-        "xorps", "andpd", "andnpd", "orpd", "shufps",
+    const OTHERS: [&str; 12] = [
+        "movaps", "movups", "movapd", "movsd", "movdqa", "movdqu", "movd", "movq", "xorps",
+        "andpd", "orpd", "shufps",
     ];
     for (name, mnemonic, operands) in instructions() {
         let known = mnemonic.starts_with('p') || OTHERS.contains(&mnemonic.as_str());

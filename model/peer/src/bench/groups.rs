@@ -22,16 +22,15 @@ use crate::samples::list_bytes;
 /// How the figures are to be read.
 const NOTE: &str = "\
 Nanoseconds a call are the least of the rounds, a ratio is the middle one of the rounds' own. The version written
-for speed is timed in the shape of a call, which is given the table by value and gives the answer back (`fast`), and
-where the table is, into a place that the caller has (`in place`). All of them check soundness first; `scan` is
-`captable_sound`, which does that and nothing else.
+for speed takes the table where it is; a call takes it by value, and the copy is in its time. All of them check
+soundness first; `scan` is `captable_sound`, which does that and nothing else.
 ";
 
 /// A side by name, with the call that it makes.
 type Side<T> = (&'static str, fn(&mut T));
 
 /// The sides of potential access. Ratios are of the first to the others.
-const ACCESS: [Side<AccessInput>; 6] = [
+const ACCESS: [Side<AccessInput>; 5] = [
     ("groups", |input| {
         black_box(&Archive.access_by_groups(black_box(&mut input.table)));
     }),
@@ -39,9 +38,6 @@ const ACCESS: [Side<AccessInput>; 6] = [
         black_box(&Archive.access(black_box(&mut input.table)));
     }),
     ("fast", |input| {
-        black_box(&fast::access_called(*black_box(&input.table)));
-    }),
-    ("in place", |input| {
         fast::access(black_box(&input.table), black_box(&mut input.answer));
     }),
     ("model", |input| {
@@ -53,7 +49,7 @@ const ACCESS: [Side<AccessInput>; 6] = [
 ];
 
 /// The sides of the test.
-const TEST: [Side<TestInput>; 5] = [
+const TEST: [Side<TestInput>; 4] = [
     ("groups", |input| {
         let TestInput { table, list, case } = black_box(input);
         black_box(&Archive.test_by_groups(table, case.members, list));
@@ -63,10 +59,6 @@ const TEST: [Side<TestInput>; 5] = [
         black_box(&Archive.test(table, case.members, list));
     }),
     ("fast", |input| {
-        let TestInput { table, list, case } = black_box(input);
-        black_box(&fast::test_called(*table, case.members, list));
-    }),
-    ("in place", |input| {
         let TestInput { table, list, case } = black_box(input);
         black_box(&fast::test(table, case.members, list));
     }),
