@@ -1,5 +1,7 @@
 // Potential access, document 01: who can come to have which right over whom, answered whole for all 64 numbers. It is worked by
 // the rules themselves, until they add nothing.
+#![tactic(auto)]
+
 use table::Table;
 
 pub mod start; // start.rt: the words that the rules start from
@@ -8,7 +10,7 @@ ghost use Rattle.std.specs.Prelude.{◌≡◌};
 ghost use Rattle.access.specs.Answers.{access_of};
 
 // Done, or the table is not sound.
-#[derive(Drop)]
+#[derive(Clone, Copy)]
 pub enum AccessReply {
     Done,
     TableUnsound,
@@ -16,7 +18,7 @@ pub enum AccessReply {
 
 // The relation as rows of sets: the row at 64 * right + holder has the numbers over which the holder has the right,
 // with rights in the order rd, wr, wk, tx.
-#[derive(Drop)]
+#[derive(Clone, Copy)]
 pub struct Access {
     pub reply: AccessReply,
     pub rows: [u64; 256],

@@ -1,4 +1,6 @@
 // The answers that document 02 adds, each by its number: 0 is done, and the numbers of a test that was refused are the test's own.
+#![tactic(auto)]
+
 ghost use Rattle.std.specs.Prelude.{◌≡◌};
 ghost use Rattle.chains.specs.Answers.{chain_number};
 ghost use Rattle.take_grant.specs.Imports.{import_number};

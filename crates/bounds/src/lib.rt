@@ -1,5 +1,7 @@
 // The bound, document 01: the non-members that the stand-in influences. The stand-in sits at the lowest member's number and holds
 // exactly the list; no byte of a member enters it. It grows by rounds along links, and these are counted (document 02, 2.6).
+#![tactic(auto)]
+
 ghost use Rattle.std.specs.Prelude.{◌≡◌, ◌≤◌, ◌<◌};
 ghost use Rattle.access.specs.Answers.{born_outside};
 ghost use Rattle.links.specs.Links.{link_words, slot_holding, joined, entry_link};
@@ -11,7 +13,7 @@ use table::{Capability, Table};
 // A list of `count` entries (target, rights). A count above 8 is a list too long; entries at or after the count are no
 // part of it.
 #[repr(C)]
-#[derive(Drop)]
+#[derive(Clone, Copy)]
 pub struct EntryList {
     pub count: u8,
     pub entries: [Capability; 8],
@@ -44,7 +46,7 @@ pub fn test_links(t: Table, l: EntryList, outside: u64, x: u8) -> [u64; 64]
 }
 
 // The bound and the rounds that it grew by.
-#[derive(Drop)]
+#[derive(Clone, Copy)]
 pub struct Grown {
     pub bound: u64,
     pub rounds: u8,

@@ -2,6 +2,8 @@
 // pointer, then its length) or a struct of document 01's fields. The step has its table lent; the other calls take the table by
 // value, so that nothing can change it between their checks and their answer. Every answer is one of document 01's numbers, or from 18 on of
 // document 02's; 0 is done.
+#![tactic(auto)]
+
 ghost use Rattle.std.specs.Prelude.{◌≡◌, ◌++◌, length, drop};
 ghost use Rattle.refusals.specs.Replies.{number as reply_number};
 ghost use Rattle.steps.specs.Steps.{step_of};
@@ -23,7 +25,7 @@ use table::Table;
 
 // A table that a step, a reading of an image or an import gives, and its number. The table stands first, so that no copy of it has to be moved.
 #[repr(C)]
-#[derive(Drop)]
+#[derive(Clone, Copy)]
 pub struct Outcome {
     pub table: Table,
     pub number: u8,
@@ -32,7 +34,7 @@ pub struct Outcome {
 // Potential access: the row at 64 * right + holder has the numbers over which the holder has the right, rights in the order rd, wr,
 // wk, tx.
 #[repr(C)]
-#[derive(Drop)]
+#[derive(Clone, Copy)]
 pub struct Relation {
     pub rows: [u64; 256],
     pub number: u8,
@@ -40,7 +42,7 @@ pub struct Relation {
 
 // What the test found: the bound, and how many rounds added an object to it; empty and 0 on every refusal.
 #[repr(C)]
-#[derive(Drop)]
+#[derive(Clone, Copy)]
 pub struct Finding {
     pub bound: u64,
     pub rounds: u8,
@@ -49,7 +51,7 @@ pub struct Finding {
 
 // The chain that brings an object into the bound: `count` numbers, zero past them; none on every refusal.
 #[repr(C)]
-#[derive(Drop)]
+#[derive(Clone, Copy)]
 pub struct ShownChain {
     pub numbers: [u8; 63],
     pub count: u8,

@@ -1,4 +1,6 @@
 // The chain of links that brings an object into the bound, document 02, 2.1: "give a shortest chain of links from the stand-in to it".
+#![tactic(auto)]
+
 ghost use Rattle.std.specs.Prelude.{◌≡◌, true, ◌<◌};
 ghost use Rattle.access.specs.Answers.{born_outside};
 ghost use Rattle.bounds.specs.StandIn.{entries_of, stand_in};
@@ -12,7 +14,7 @@ use confinement::Verdict;
 use table::Table;
 
 // Done, or why no chain is shown: the verdict of a test that was refused, or what is wrong with the object.
-#[derive(Drop)]
+#[derive(Clone, Copy)]
 pub enum ChainReply {
     Done,
     TestRefused(Verdict),
@@ -21,7 +23,7 @@ pub enum ChainReply {
 }
 
 // The numbers of the chain in turn, the stand-in left out, and zero past the count; on every refusal none.
-#[derive(Drop)]
+#[derive(Clone, Copy)]
 pub struct Shown {
     pub reply: ChainReply,
     pub numbers: [u8; 63],

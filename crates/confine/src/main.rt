@@ -1,4 +1,5 @@
 // The program `confine`, document 01, "The stored image": reads an input, and prints what the library `report` answers to it.
+#![tactic(auto)]
 
 // The longest input that can be right has 1,932 + 2 * 255 bytes. One byte more is read, so that a longer input is seen to be too
 // long: no count makes 2,443 bytes right, since that would be 511 bytes of entries.

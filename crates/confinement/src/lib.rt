@@ -1,4 +1,6 @@
 // The confinement test, document 01: which objects a newly loaded subsystem can ever influence.
+#![tactic(auto)]
+
 use bounds::EntryList;
 use table::Table;
 
@@ -9,7 +11,7 @@ ghost use Rattle.bounds.specs.StandIn.{entries_of};
 ghost use Rattle.confinement.specs.Tests.{refused_test, test_of};
 
 // Accepted, or why the test was refused.
-#[derive(Drop)]
+#[derive(Clone, Copy)]
 pub enum Verdict {
     Accepted,
     TableUnsound,
@@ -20,7 +22,7 @@ pub enum Verdict {
 }
 
 // The verdict, the bound, and the number of rounds that added an object to it: empty and 0 on every refusal.
-#[derive(Drop)]
+#[derive(Clone, Copy)]
 pub struct Tested {
     pub verdict: Verdict,
     pub bound: u64,

@@ -1,4 +1,6 @@
 // What a fetch takes, and where a copied capability lands, document 01.
+#![tactic(auto)]
+
 ghost use Rattle.std.specs.Prelude.{◌≡◌, ◌<◌};
 ghost use Rattle.requests.specs.Asks.{pairs_of};
 ghost use Rattle.copies.specs.Copies.{fetched as fetched_by, landed as landed_on, copy_pairs};
@@ -10,7 +12,7 @@ use rights::weaken;
 use table::{Capability, Table};
 
 // A record's eight slots.
-#[derive(Drop)]
+#[derive(Clone, Copy)]
 pub struct Row {
     pub cells: [Capability; 8],
 }

@@ -1,5 +1,7 @@
 // What a request does, document 01, the column "Effect", where it changes several places: send, allocate, destroy, and reclaim of
 // document 02, 2.8. Their checks are done when they come here.
+#![tactic(auto)]
+
 ghost use Rattle.std.specs.Prelude.{◌≡◌, ◌<◌};
 ghost use Rattle.requests.specs.Asks.{pairs_of};
 ghost use Rattle.refusals.specs.Helpers.{PairsFit};

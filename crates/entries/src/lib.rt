@@ -1,4 +1,6 @@
 // The entries of a confinement test from their bytes, two for each: target, rights.
+#![tactic(auto)]
+
 ghost use Rattle.std.specs.Prelude.{◌≡◌, ◌*◌, ◌≤◌, length, replicate};
 ghost use Rattle.table.specs.Cells.{empty_slot};
 ghost use Rattle.table.specs.Lists.{tabulate, padded};

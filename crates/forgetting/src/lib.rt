@@ -1,5 +1,7 @@
 // What a reclaim takes out of the whole table, document 02, 2.8: every capability that names the number, whoever holds it, and every
 // maker byte that names it.
+#![tactic(auto)]
+
 ghost use Rattle.std.specs.Prelude.{◌≡◌};
 ghost use Rattle.forgetting.specs.Forgetting.{unnamed as unnamed_in, maker_left, slots_forgotten, makers_forgotten};
 

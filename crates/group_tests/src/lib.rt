@@ -1,5 +1,7 @@
 // The confinement test by groups, document 02, 2.9: the answer of the test, by a shorter way. Its bound is the bound by groups; it is found,
 // with its rounds, in one walk along links that takes each object's links once, so that no group is made apart.
+#![tactic(auto)]
+
 ghost use Rattle.std.specs.Prelude.{◌≡◌, ◌≤◌, ◌<◌};
 ghost use Rattle.bounds.specs.StandIn.{entries_of};
 ghost use Rattle.confinement.specs.Refusals.{bad_held};

@@ -1,5 +1,7 @@
 // Potential access worked by groups, document 02, 2.9: the answer of the rules, by a shorter way. Objects joined by held rd, wr or tx are one
 // group, which is found once; wk goes over links between groups.
+#![tactic(auto)]
+
 ghost use Rattle.std.specs.Prelude.{◌≡◌};
 ghost use Rattle.access.specs.Answers.{access_of};
 ghost use Rattle.groups.specs.Helpers.{laid_out};

@@ -1,4 +1,6 @@
 // What slots hold between numbers of a set, as words, in one pass: which numbers are joined, and over which a holder holds something.
+#![tactic(auto)]
+
 ghost use Rattle.std.specs.Prelude.{◌≡◌, true, false, ◌<◌, replicate};
 ghost use Rattle.links.specs.Links.{words_of, slot_holding};
 ghost use Rattle.held.specs.Helpers.{joins_either, slot_named, held_astray, Noted};
@@ -7,7 +9,7 @@ use table::Capability;
 
 // What one holder holds: over which numbers it has rd, wr or tx, and over which any right. And whether it holds something over a number
 // that no set has.
-#[derive(Drop)]
+#[derive(Clone, Copy)]
 pub struct Holds {
     pub strong: u64,
     pub over: u64,

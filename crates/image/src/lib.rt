@@ -1,6 +1,8 @@
 // The stored image of a table, big-endian: a head, then 64 records. Version 1, document 01: 1,923 bytes, records of 30. Version 2,
 // document 02, 2.7: 1,987 bytes, records of 31, with the maker last. Reading takes both. It goes by slots, a record, the table, and then what
 // an image is checked for.
+#![tactic(auto)]
+
 ghost use Rattle.std.specs.Prelude.{◌≡◌, ◌≤◌, eqb, length};
 ghost use Rattle.table.specs.Lists.{tabulate};
 ghost use Rattle.image.specs.Layout.{head as head_of, record_length, image_length, slot_from, maker_from, stored_with, stored_from, table_from};
@@ -9,7 +11,7 @@ ghost use Rattle.image.specs.Images.{read_number, version_as, head_refusal, refu
 use table::{Capability, Record, Table};
 
 // The versions of the layout.
-#[derive(Drop)]
+#[derive(Clone, Copy)]
 pub enum Version {
     One,
     Two,
@@ -22,7 +24,7 @@ pub const HEAD_ONE: [u8; 3] = [0x07, 0x83, 0x01];
 pub const HEAD_TWO: [u8; 3] = [0x07, 0xC3, 0x02];
 
 // Done, or why an image was not read.
-#[derive(Drop)]
+#[derive(Clone, Copy)]
 pub enum ReadReply {
     Done,
     TableUnsound,
@@ -31,14 +33,14 @@ pub enum ReadReply {
 }
 
 // What reading gives: on every refusal the wholly unborn table.
-#[derive(Drop)]
+#[derive(Clone, Copy)]
 pub struct Loaded {
     pub reply: ReadReply,
     pub table: Table,
 }
 
 // An object with its eight slots, as one record of the image.
-#[derive(Drop)]
+#[derive(Clone, Copy)]
 pub struct Stored {
     pub object: Record,
     pub slots: [Capability; 8],

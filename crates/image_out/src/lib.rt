@@ -1,4 +1,6 @@
 // Writing a table's image of either version into a buffer: slots, a record, the records, and then the whole with its checks.
+#![tactic(auto)]
+
 ghost use Rattle.std.specs.Prelude.{◌≡◌, ◌++◌, ◌≤◌, length, take, drop};
 ghost use Rattle.image.specs.Layout.{head as head_of, record_length, image_length, slots_bytes, shared_bytes, stored_bytes, records_bytes, maker_lost};
 ghost use Rattle.image_out.specs.Written.{some_lost, write_refusal, written_of};
@@ -8,7 +10,7 @@ use image::{Stored, Version};
 use table::{Capability, Table};
 
 // Done, or why an image was not written.
-#[derive(Drop)]
+#[derive(Clone, Copy)]
 pub enum WriteReply {
     Done,
     TableUnsound,

@@ -1,5 +1,7 @@
 // The step, document 01: a table and a request in, the reply and the table out. Here are the four requests that change more than one
 // cell, on a table that is sound when it comes here, and the choice by the request.
+#![tactic(auto)]
+
 ghost use Rattle.std.specs.Prelude.{◌≡◌, true, ◌<◌};
 ghost use Rattle.table.specs.Cells.{record_at};
 ghost use Rattle.table.specs.Soundness.{sound};

@@ -1,5 +1,7 @@
 // Groups of numbers, as words: the groups that joined numbers form, the links between groups, and what these lead to. Each group is worked
 // once, and whoever is in it has its words.
+#![tactic(auto)]
+
 ghost use Rattle.std.specs.Prelude.{◌≡◌, true, false, ℕ, ◌<◌, get_or, length, replicate};
 ghost use Rattle.mask.specs.Sets.{has};
 ghost use Rattle.relation.specs.Closure.{reached};

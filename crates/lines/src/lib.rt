@@ -1,10 +1,12 @@
 // The lines of a decision, put into a buffer one after the other. Each function says where the next line goes.
+#![tactic(auto)]
+
 ghost use Rattle.std.specs.Prelude.{◌≡◌, ◌+◌, ◌≤◌, ◌<◌, length};
 ghost use Rattle.lines.specs.Lines.{number_line, number_lines, refused_line, accepted_lines, lines_of};
 ghost use Rattle.lines.specs.Helpers.{placed, begun, line_if};
 
 // What was decided: 0 for accepted or the number of the refusal, and the bound, which is empty on every refusal.
-#[derive(Drop)]
+#[derive(Clone, Copy)]
 pub struct Decision {
     pub number: u8,
     pub bound: u64,

@@ -1,4 +1,6 @@
 // The links of a holding as 64 words, of which word x has the numbers one link from x, walked by rounds.
+#![tactic(auto)]
+
 ghost use Rattle.std.specs.Prelude.{◌≡◌, true, ◌≤◌, ◌<◌};
 ghost use Rattle.relation.specs.Relation.{table_holding};
 ghost use Rattle.relation.specs.Closure.{grow, only};
@@ -8,7 +10,7 @@ ghost use Rattle.links.specs.Helpers.{edge_if, link_if, spread_of};
 use table::{Capability, Table};
 
 // What rounds reach, and how many of them added something.
-#[derive(Drop)]
+#[derive(Clone, Copy)]
 pub struct Spread {
     pub set: u64,
     pub rounds: u8,

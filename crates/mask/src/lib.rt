@@ -1,5 +1,7 @@
 // Sets of the numbers 0 to 63, held as 64 bits: bit n for number n, bit 0 least significant.
 // Every set step of the table goes through these functions.
+#![tactic(auto)]
+
 ghost use Rattle.std.specs.Prelude.{◌≡◌, ◌<◌};
 ghost use Rattle.mask.specs.Sets.{has as has_bit, including, excluding, union_of, common_of, less_of, subset_of, disjoint_of};
 

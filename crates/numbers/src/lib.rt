@@ -1,5 +1,7 @@
 // Every answer by its number: "Where an answer is an enum, a definition tells you this paper's number", document 01. 0 is done,
 // answered, accepted, read or written. 23 and 24 are document 02's, 2.7 and 2.8.
+#![tactic(auto)]
+
 ghost use Rattle.std.specs.Prelude.{◌≡◌};
 ghost use Rattle.refusals.specs.Replies.{number};
 ghost use Rattle.access.specs.Answers.{access_number};

@@ -1,4 +1,6 @@
 // Bytes, for whatever crosses as bytes: a byte at a place, and numbers of several bytes, "Big-endian", document 01.
+#![tactic(auto)]
+
 ghost use Rattle.std.specs.Prelude.{◌≡◌, ◌≤◌, length};
 ghost use Rattle.octets.specs.BigEndian.{byte_at, bytes_of, number_of};
 

@@ -1,5 +1,6 @@
 // The parts of the program `vectors` that keep nothing from one case to the next: a case out of the file, put to the proved code, and the
 // line that is printed for it.
+#![tactic(auto)]
 
 pub mod images; // images.rt: images read, and tables written
 pub mod imports; // imports.rt: tables of the older rigs brought in

@@ -1,5 +1,7 @@
 // What turns a request down, document 01, "Why something is turned down": the replies, and the checks of rows 2 to 6, which
 // requests share. In the place of row 5, reclaim has row 24 of document 02, 2.8.
+#![tactic(auto)]
+
 ghost use Rattle.std.specs.Prelude.{◌≡◌, true};
 ghost use Rattle.table.specs.Soundness.{sound};
 ghost use Rattle.requests.specs.Asks.{pairs_of};
@@ -16,7 +18,7 @@ pub const ALIVE: u8 = 1;
 pub const DEAD: u8 = 2;
 
 // Done, or why a request was refused.
-#[derive(Drop)]
+#[derive(Clone, Copy)]
 pub enum Reply {
     Done,
     TableUnsound,
@@ -33,7 +35,7 @@ pub enum Reply {
 
 // What the checks of a request through a slot saw: the reply, whether it is "done", and then the slot's capability and its
 // target's kind.
-#[derive(Drop)]
+#[derive(Clone, Copy)]
 pub struct SlotCheck {
     pub reply: Reply,
     pub done: bool,

@@ -1,5 +1,7 @@
 // The rules of potential access on 256 words: the word at 64 * right + x has the numbers over which x has the right. Rights are
 // numbered 0 rd, 1 wr, 2 wk, 3 tx.
+#![tactic(auto)]
+
 ghost use Rattle.std.specs.Prelude.{◌≡◌, true, false, ◌+◌, ◌*◌, ◌<◌, length};
 ghost use Rattle.relation.specs.Helpers.{Full, feed, feed_all, shares, rules, held_over, row_pass, pass_of, Saturated};
 

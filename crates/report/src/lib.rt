@@ -1,5 +1,6 @@
 // What the program `confine` prints for its input, document 01, "The stored image": it decides, from the input's bytes to a number and a
 // bound, and then prints these.
+#![tactic(auto)]
 
 pub mod deciding; // deciding.rt: from the input to a number and a bound
 

@@ -1,9 +1,10 @@
 // What a request is, document 01, "The eight requests", and the ninth, reclaim, of document 02, 2.8: a request with its numbers, and
 // the pair list beside it.
+#![tactic(auto)]
 
 // A pair is (actor's slot, destination slot).
 #[repr(C)]
-#[derive(Drop)]
+#[derive(Clone, Copy)]
 pub struct Pair {
     pub from: u8,
     pub to: u8,
@@ -11,14 +12,14 @@ pub struct Pair {
 
 // A list of `count` pairs. A count above 4 is a list too long; pairs at or after the count are no part of it.
 #[repr(C)]
-#[derive(Drop)]
+#[derive(Clone, Copy)]
 pub struct PairList {
     pub count: u8,
     pub pairs: [Pair; 4],
 }
 
 // `t` is the actor's slot that is used. The list of a send or an allocate stands beside the request.
-#[derive(Drop)]
+#[derive(Clone, Copy)]
 pub enum Request {
     Read {
         actor: u8,

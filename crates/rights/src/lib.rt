@@ -1,4 +1,6 @@
 // What rights are worth, document 01: a row for each of the sixteen values (02, 2.5). docs/RIGHTS.md has the same rows on paper.
+#![tactic(auto)]
+
 ghost use Rattle.std.specs.Prelude.{◌≡◌};
 ghost use Rattle.rights.specs.Rows.{worth_of, need_met, weaken as weakened};
 
@@ -10,7 +12,7 @@ const WK: u8 = 4;
 const EMPTY: u8 = 0;
 
 // The right that a request needs on the slot that it uses.
-#[derive(Drop)]
+#[derive(Clone, Copy)]
 pub enum Need {
     ReadOrWeak,
     Write,
@@ -19,7 +21,7 @@ pub enum Need {
 
 // What one value is worth: the rights that weakening leaves of it; may it read and fetch; may it write, store, revoke, destroy and reclaim;
 // may it send.
-#[derive(Drop)]
+#[derive(Clone, Copy)]
 pub struct Worth(pub u8, pub bool, pub bool, pub bool);
 
 // The row of a value: 1 rd, 2 wr, 4 wk, 8 tx, added up. A byte above 15 has the row of its four lowest bits.

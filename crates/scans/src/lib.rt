@@ -1,4 +1,6 @@
 // One scan of a table for soundness and for what is held: each slot is looked at once.
+#![tactic(auto)]
+
 ghost use Rattle.std.specs.Prelude.{◌≡◌, true, replicate};
 ghost use Rattle.table.specs.Soundness.{sound};
 ghost use Rattle.access.specs.Answers.{born_outside};
@@ -10,7 +12,7 @@ use held::Holds;
 use table::{Record, Table};
 
 // Whether the table is sound, and its born numbers.
-#[derive(Drop)]
+#[derive(Clone, Copy)]
 pub struct Scanned {
     pub sound: bool,
     pub born: u64,

@@ -1,5 +1,7 @@
 // A step, document 01: a table and a request in, the reply and the table out. Here are the five requests that change one cell, a word
 // or a slot; each is its checks and then its effect, on a table that is sound when it comes here.
+#![tactic(auto)]
+
 ghost use Rattle.std.specs.Prelude.{◌≡◌, true};
 ghost use Rattle.table.specs.Soundness.{sound};
 ghost use Rattle.requests.specs.Asks.{read as read_ask, write as write_ask, fetch as fetch_ask, store as store_ask, revoke as revoke_ask};
@@ -11,7 +13,7 @@ use rights::Need;
 use table::{Capability, Table};
 
 // What a step gives back: the reply, and the table after it.
-#[derive(Drop)]
+#[derive(Clone, Copy)]
 pub struct Stepped {
     pub reply: Reply,
     pub table: Table,

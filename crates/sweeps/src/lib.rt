@@ -1,5 +1,7 @@
 // Sets gone through number by number, lowest first: what the words of a set have together, a word put at each number of a set, and
 // rounds that look at each number once.
+#![tactic(auto)]
+
 ghost use Rattle.std.specs.Prelude.{◌≡◌, ℕ, ◌<◌, length};
 ghost use Rattle.mask.specs.Sets.{excluding};
 ghost use Rattle.links.specs.Links.{word_edge};

@@ -1,16 +1,16 @@
 -- What a table by value is known to be. A contract's `Table` is a record of two lists, and says no length and no field's bits;
 -- whoever owns the value has them, since who owns an array owns each element: `value_is_table`. The wholly unborn table has them,
 -- and a put of a value keeps them. By what the declared types say of a value. Assumes nothing.
-use mathlib.Core.Path.{◌≡◌, refl, sym, ◌∙◌}
-use mathlib.Core.List.{List, [], ◌∷◌, map}
+use mathlib.Core.Path.{◌≡◌, refl, ◌∙◌}
+use mathlib.Core.List.{List, [], ◌∷◌}
 use Prim.Native.Nat.{ℕ, zero, suc, ◌+◌, ◌*◌, ◌^◌, ◌<◌}
 use native.Mathlib.Omega.{arith}
-use lib.ListN.{length, get_or, length-map, length-set}
+use lib.ListN.{length, get_or, length-set}
 use mir.Val.{Val}
 use denote.Array.{each}
 use denote.Laws.{Is}
 use denote.Shadow.{shadow}
-use denote.Struct.Declared.{Declared, row, field}
+use denote.Struct.Declared.{Declared, row}
 use denote.Struct.Laws as LL
 use Rattle.table.specs.declared.Capability.{Capability}
 use Rattle.table.specs.declared.Record.{Record}
@@ -27,10 +27,10 @@ use Rattle.table.proofs.Lists.{put_any}
 use Rattle.table.proofs.Places.{at_replicate}
 
 pub records_long : (t : Table) (vs : List Val) → Is T.the_row t vs → length t.records ≡ 64
-records_long t vs is = sym (length-map t.records _) ∙ (LL.owed T.the_type T'.the_laws t vs is).0.1.0.1
+records_long t vs is = (LL.owed T.the_type T'.the_laws t vs is).0.1.0.1
 
 pub slots_long : (t : Table) (vs : List Val) → Is T.the_row t vs → length t.slots ≡ 512
-slots_long t vs is = sym (length-map t.slots _) ∙ (LL.owed T.the_type T'.the_laws t vs is).1.0.1.0.1
+slots_long t vs is = (LL.owed T.the_type T'.the_laws t vs is).1.0.1.0.1
 
 pub value_sized : (t : Table) (vs : List Val) → Is T.the_row t vs → Sized t
 value_sized t vs is = record { records = records_long t vs is; slots = slots_long t vs is }
@@ -64,7 +64,7 @@ empty_value = slot_value empty_slot (omega arith) (omega arith)
 
 -- what is read at any place of an array that is owned
 element_value : (D : Declared) (d : D.D) → ValueOf D d → (xs : List D.D) (us : List Val)
-    → shadow (each (field D).row.Denot (field D).row.own_val (map D.to xs) us) → (k : ℕ) → ValueOf D (get_or xs k d)
+    → shadow (each (row D).Denot (row D).own_val xs us) → (k : ℕ) → ValueOf D (get_or xs k d)
 element_value D d past [] us is k = past
 element_value D d past (x ∷ xs) [] is k = absurd is
 element_value D d past (x ∷ xs) (u ∷ us) is zero = (u ∷ [], is.0)

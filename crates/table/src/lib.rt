@@ -1,4 +1,6 @@
 // The capability table of document 01, "Objects, slots, rights": one value of 64 records, each with its eight slots.
+#![tactic(auto)]
+
 ghost use Rattle.std.specs.Prelude.{◌≡◌, ◌&&◌};
 ghost use Rattle.mask.specs.Sets.{has as has_bit};
 ghost use Rattle.table.specs.Cells.{is_born, unborn_table};
@@ -7,7 +9,7 @@ ghost use Rattle.table.specs.Helpers.{odd_slot, glance_more, clear_of};
 
 // What a slot holds: a target and rights over it (1 rd, 2 wr, 4 wk, 8 tx). Target 0 with rights 0 is an empty slot.
 #[repr(C)]
-#[derive(Drop)]
+#[derive(Clone, Copy)]
 pub struct Capability {
     pub target: u8,
     pub rights: u8,
@@ -16,7 +18,7 @@ pub struct Capability {
 // An object's record. `maker` is the number of the object that made it, or 64 for one that was not made in a run; `stock` is the
 // set of unborn numbers that the object alone may make objects of.
 #[repr(C)]
-#[derive(Drop)]
+#[derive(Clone, Copy)]
 pub struct Record {
     pub status: u8,
     pub kind: u8,
@@ -27,7 +29,7 @@ pub struct Record {
 
 // Slot j of object n is at n * 8 + j.
 #[repr(C)]
-#[derive(Drop)]
+#[derive(Clone, Copy)]
 pub struct Table {
     pub records: [Record; 64],
     pub slots: [Capability; 512],
@@ -99,7 +101,7 @@ pub fn slot_sound(r: Record, born: bool, c: Capability) -> bool
 
 // What a glance over a record's slots notes: is one of them filled, is one of them odd, and which targets there are, where an
 // empty slot's is 0.
-#[derive(Drop)]
+#[derive(Clone, Copy)]
 struct Glance {
     filled: bool,
     odd: bool,

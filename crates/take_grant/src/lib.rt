@@ -1,5 +1,7 @@
 // The tables of the older rigs, document 02, 2.2: bytes in, reply and table out. A capability, then the entities, then what the head is checked
 // for. Nothing is kept of bytes that are refused.
+#![tactic(auto)]
+
 ghost use Rattle.std.specs.Prelude.{◌≡◌, cond, ◌≤◌, length, drop};
 ghost use Rattle.mask.specs.Sets.{has};
 ghost use Rattle.take_grant.specs.Entities.{mapped as mapped_rights};
@@ -10,7 +12,7 @@ ghost use Rattle.take_grant.specs.Helpers.{held_of, head_of};
 use table::{Capability, Record, Table};
 
 // Done, or why bytes were not brought in.
-#[derive(Drop)]
+#[derive(Clone, Copy)]
 pub enum ImportReply {
     Done,
     LengthWrong,
@@ -19,14 +21,14 @@ pub enum ImportReply {
 }
 
 // What an import gives: on every refusal the wholly unborn table. The table stands first, so that no copy of it has to be moved.
-#[derive(Drop)]
+#[derive(Clone, Copy)]
 pub struct Imported {
     pub table: Table,
     pub reply: ImportReply,
 }
 
 // What stands at a place: a capability, as the slot that it becomes, or why there is none.
-#[derive(Drop)]
+#[derive(Clone, Copy)]
 enum Held {
     Slot(Capability),
     Stop(ImportReply),

@@ -1,13 +1,15 @@
 // Runs the proved code on the cases of data/, which the reference model makes, and prints what it answers, a line for each case.
 // The model also makes the expected output, so the gate compares two programs that share no code. The safety and the end of this
 // program are proved; what it prints is tested.
+#![tactic(auto)]
+
 use parts::{images, imports, linked, output, relations, shown, verdicts};
 use turns::Turn;
 
 mod turns; // turns.rt: requests
 
 // What a file's cases are put to.
-#[derive(Drop)]
+#[derive(Clone, Copy)]
 enum Part {
     Images,
     Writes,

@@ -8,7 +8,7 @@ use steps::Stepped;
 use table::Table;
 
 // Whether there was a case, and the table for the next one.
-#[derive(Drop)]
+#[derive(Clone, Copy)]
 pub struct Turn {
     pub found: bool,
     pub table: Table,

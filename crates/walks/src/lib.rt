@@ -1,5 +1,7 @@
 // The chain that comes first among the shortest, over 64 words of links: layers counted back from its end, then forward through them, the
 // lowest number each time.
+#![tactic(auto)]
+
 ghost use Rattle.std.specs.Prelude.{◌≡◌, true, [], ◌≤◌, ◌<◌};
 ghost use Rattle.relation.specs.Closure.{grow, only};
 ghost use Rattle.links.specs.Links.{word_edge};
@@ -7,14 +9,14 @@ ghost use Rattle.walks.specs.Chains.{layers_to, walk_down, least_chain, walked};
 ghost use Rattle.walks.specs.Helpers.{latest_first, in_range};
 
 // The numbers of a chain in turn, and zero past the count.
-#[derive(Drop)]
+#[derive(Clone, Copy)]
 pub struct Walked {
     pub numbers: [u8; 63],
     pub count: u8,
 }
 
 // What is within 0, 1, 2 .. links of the end, as many as `count` says.
-#[derive(Drop)]
+#[derive(Clone, Copy)]
 struct Layers {
     sets: [u64; 63],
     count: usize,

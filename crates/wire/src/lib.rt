@@ -1,4 +1,6 @@
 // A request from its bytes: the code, then document 01's fields in their order.
+#![tactic(auto)]
+
 ghost use Rattle.std.specs.Prelude.{◌≡◌, true, cond, ◌||◌, [], ◌≢◌, ◌≤◌, eqb, leb, length};
 ghost use Rattle.table.specs.Lists.{tabulate, padded};
 ghost use Rattle.octets.specs.BigEndian.{number_of};
@@ -9,7 +11,7 @@ use octets::byte_at;
 use requests::{Pair, PairList, Request};
 
 // A request and the list beside it.
-#[derive(Drop)]
+#[derive(Clone, Copy)]
 pub struct Asked {
     pub request: Request,
     pub list: PairList,

@@ -1,4 +1,6 @@
 // A request's bytes: the code, then document 01's fields in their order.
+#![tactic(auto)]
+
 ghost use Rattle.std.specs.Prelude.{◌≡◌, [], ◌∷◌, ◌++◌, ◌≤◌, take};
 ghost use Rattle.table.specs.Lists.{padded};
 ghost use Rattle.octets.specs.BigEndian.{bytes_of};
@@ -8,7 +10,7 @@ ghost use Rattle.wire_out.specs.Written.{list_bytes, held_bytes, written_of};
 use requests::{PairList, Request};
 
 // A request's bytes: the first `count` of them, and zeros after them.
-#[derive(Drop)]
+#[derive(Clone, Copy)]
 pub struct Written {
     pub bytes: [u8; 22],
     pub count: usize,

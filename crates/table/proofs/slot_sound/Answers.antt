@@ -4,8 +4,7 @@ use mathlib.Core.Bool.{Bool, true, false, ◌&&◌, ◌||◌}
 use lib.Dec.{leb}
 use Rattle.mask.proofs.Tests.{clash}
 use Rattle.table.specs.Cells.{is_alive, is_empty}
-use Rattle.table.proofs.slot_sound.Statement.{statement}
-use Rattle.table.proofs.slot_sound.Tie as tie
+use Rattle.table.proofs.slot_sound.Goals as goal
 
 empty-passes : (alive empty filled : Bool) → empty ≡ true → true ≡ ((alive || empty) && (empty || filled))
 empty-passes true true filled e = refl
@@ -17,13 +16,10 @@ filled-asks true false filled e = refl
 filled-asks false false filled e = refl
 filled-asks alive true filled e = clash refl e
 
-returns : tie.Need-returns
-returns c = let a = c.before.before.before.args in
-    empty-passes (is_alive a.r) (is_empty a.c) (a.born && leb 1 a.c.rights && leb a.c.rights 15) c.if1.true
+pub returns-then-c : goal.returns-then-c
+returns-then-c c = let a = c.args in
+    empty-passes (is_alive a.r) (is_empty a.c) (a.born && leb 1 a.c.rights && leb a.c.rights 15) c.if-c.true
 
-returns-2 : tie.Need-returns-2
-returns-2 c = let a = c.before.before.before.before.before.before.args in
-    filled-asks (is_alive a.r) (is_empty a.c) (a.born && leb 1 a.c.rights && leb a.c.rights 15) c.before.before.before.if1.false
-
-pub slot-sound-spec : {M : Type 1} → statement M
-slot-sound-spec = tie.close (tie.spec returns returns-2)
+pub returns : goal.returns
+returns c = let a = c.args in
+    filled-asks (is_alive a.r) (is_empty a.c) (a.born && leb 1 a.c.rights && leb a.c.rights 15) c.if-c.false
