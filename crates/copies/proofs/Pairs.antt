@@ -93,7 +93,7 @@ copy_row t u a n l row fit e = copy_same u (cell_of row) (slot_at t a) n l.count
 pub copies_sized : (t : Table) (source : ℕ → Capability) (n : ℕ) (ps : List Pair) → Sized t → Sized (copy_pairs t source n ps)
 unfolding copy_pairs
 copies_sized t source n [] z = z
-copies_sized t source n (p ∷ ps) z = copies_sized _ source n ps (sized_put_slot t n p.to _ z)
+copies_sized t source n (p ∷ ps) z = copies_sized (copy_to t n p.to (source p.from)) source n ps (sized_put_slot t n p.to _ z)
 
 -- empty pairs -----------------------------------------------------------------------------------------
 pub copies_empty_none : (t : Table) (source : ℕ → Capability) (n : ℕ) (ps : List Pair) (m k : ℕ) → is_empty (slot_at t m k) ≡ false

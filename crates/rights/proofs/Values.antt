@@ -1,8 +1,8 @@
--- The sixteen values one by one: a claim of each number below n is a claim of them all; a number below 16 that is none of 0 to 14 is
--- 15; and the row of a value is the one at its remainder. Assumes nothing.
+-- The sixteen values one by one: a claim of each number below n is a claim of them all; and the row of a value is the one at its
+-- remainder. Assumes nothing.
 use mathlib.Core.Path.{◌≡◌, sym, ap, subst}
 use mathlib.Core.Bool.{false}
-use Prim.Native.Nat.{ℕ, zero, suc, ◌%◌, ◌≤◌, ◌<◌}
+use Prim.Native.Nat.{ℕ, zero, suc, ◌%◌, ◌<◌}
 use native.Mathlib.Omega.{arith}
 use lib.ListN.{get_or}
 use Rattle.mask.proofs.Tests.{by_eq}
@@ -18,18 +18,6 @@ pub each_at : (P : ℕ → Type 0) (n k : ℕ) → Each P n → k < n → P k
 unfolding Each
 each_at P zero k e h = absurd (omega arith)
 each_at P (suc n) k e h = by_eq k n (λ q. subst P (sym q) e.1) (λ q. each_at P n k e.0 (omega arith))
-
-abbrev Other : ℕ → ℕ → Type 0
-Other x k = x ≡ k → ⊥
-
--- none of 0 to n - 1: at least n
-past : (n x : ℕ) → Each (Other x) n → n ≤ x
-unfolding Each
-past zero x e = omega arith
-past (suc n) x e = let h = past n x e.0 in let q = e.1 in omega arith
-
-pub last_value : (x : ℕ) → x < 16 → Each (Other x) 15 → x ≡ 15
-last_value x h e = let l = past 15 x e in omega arith
 
 abbrev pub row_at : ℕ → Worth
 row_at k = get_or rows k (0, false, false, false)

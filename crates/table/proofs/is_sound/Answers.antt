@@ -3,7 +3,6 @@
 use mathlib.Core.Path.{◌≡◌, sym, ◌∙◌, ap, refl, subst⁻¹}
 use mathlib.Core.Bool.{true}
 use Prim.Native.Nat.{ℕ}
-use borrow.Author.Tests.{not-true, not-false}
 use native.Mathlib.Omega.{arith}
 use Rattle.mask.specs.Sets.{all_below, union_of, including}
 use Rattle.mask.proofs.Below.{all_more, all_none}
@@ -55,7 +54,7 @@ slots-preserved c = let t = c.args.t in
       omega arith,
       c.slots.invariant.1,
       all_more j (slot_sound t n) c.slots.invariant.2
-          (sym (slot_is t (records_long t _ c.well_formed.0) n j _ _ _ (c.born.invariant.1 ∙ born_all _ _ c.born-test.false) c.has.ensures c.slot_sound.ensures) ∙ not-false _ c.if-not-slot_sound.false-raw),
+          (sym (slot_is t (records_long t _ c.well_formed.0) n j _ _ _ (c.born.invariant.1 ∙ born_all _ _ c.born-test.false) c.has.ensures c.slot_sound.ensures) ∙ c.if-not-slot_sound.false),
     )
 
 pub scan-preserved : goal.scan-preserved
@@ -65,7 +64,7 @@ scan-preserved c = let t = c.args.t in
       c.slots.invariant.1,
       c.union-taken.ensures ∙ ap (λ (x : ℕ). union_of x (stock_at t n)) c.scan.invariant.2 ∙ taken_more t n,
       good_more t n c.slots.j c.scan.invariant.3
-          (sym (opens_is t (records_long t _ c.well_formed.0) n _ _ _ _ _ (c.born.invariant.1 ∙ born_all _ _ c.born-test.false) c.scan.invariant.2 c.record_sound.ensures c.maker_sound.ensures c.disjoint.ensures) ∙ not-false _ c.if-not-record_sound-maker_sound.false-raw)
+          (sym (opens_is t (records_long t _ c.well_formed.0) n _ _ _ _ _ (c.born.invariant.1 ∙ born_all _ _ c.born-test.false) c.scan.invariant.2 c.record_sound.ensures c.maker_sound.ensures c.disjoint.ensures) ∙ c.if-not-record_sound-maker_sound.false)
           c.slots.invariant.0 c.slots-test.false c.slots.invariant.2,
     )
 
@@ -75,11 +74,11 @@ returns-after-scan c = c.scan.invariant.1 ∙ scanned _ _ c.scan.invariant.0 c.s
 pub returns-then-not-record_sound-maker_sound : goal.returns-then-not-record_sound-maker_sound
 returns-then-not-record_sound-maker_sound c = let t = c.args.t in
     let n = c.scan.n in
-    stopped_at_record t n c.scan-test.true (sym (opens_is t (records_long t _ c.well_formed.0) n _ _ _ _ _ (c.born.invariant.1 ∙ born_all _ _ c.born-test.false) c.scan.invariant.2 c.record_sound.ensures c.maker_sound.ensures c.disjoint.ensures) ∙ not-true _ c.if-not-record_sound-maker_sound.true-raw)
+    stopped_at_record t n c.scan-test.true (sym (opens_is t (records_long t _ c.well_formed.0) n _ _ _ _ _ (c.born.invariant.1 ∙ born_all _ _ c.born-test.false) c.scan.invariant.2 c.record_sound.ensures c.maker_sound.ensures c.disjoint.ensures) ∙ c.if-not-record_sound-maker_sound.true)
 
 pub returns-then-not-slot_sound : goal.returns-then-not-slot_sound
 returns-then-not-slot_sound c = let t = c.args.t in
     let n = c.scan.n in
     let j = c.slots.j in
     stopped_at_slot t n j c.scan-test.true c.slots-test.true
-    (sym (slot_is t (records_long t _ c.well_formed.0) n j _ _ _ (c.born.invariant.1 ∙ born_all _ _ c.born-test.false) c.has.ensures c.slot_sound.ensures) ∙ not-true _ c.if-not-slot_sound.true-raw)
+    (sym (slot_is t (records_long t _ c.well_formed.0) n j _ _ _ (c.born.invariant.1 ∙ born_all _ _ c.born-test.false) c.has.ensures c.slot_sound.ensures) ∙ c.if-not-slot_sound.true)
