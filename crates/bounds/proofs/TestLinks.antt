@@ -112,9 +112,9 @@ module _ (t : Table) (members : ℕ) (l : EntryList) (low : stand_in members < 6
 pub joined_own : (own held words : List ℕ) (edge : ℕ → ℕ → Bool) → own ≡ held → words ≡ joined own edge → words ≡ joined held edge
 joined_own own held words edge e f = f ∙ ap (λ (w : List ℕ). joined w edge) e
 
-pub code_links : (t : Table) (members : ℕ) (l : EntryList) (outside x : ℕ) (words : List ℕ) → stand_in members < 64 → outside ≡ born_outside t.records members → x ≡ stand_in members
-    → words ≡ joined (link_words (slot_holding t.slots outside)) (entry_link l.entries l.count outside x) → words ≡ link_words (test_holding t members (entries_of l))
-code_links t members l outside x words low o e f = f
+pub code_links : (t : Table) (members : ℕ) (l : EntryList) (out x : ℕ) (words : List ℕ) → stand_in members < 64 → out ≡ born_outside t.records members → x ≡ stand_in members
+    → words ≡ joined (link_words (slot_holding t.slots out)) (entry_link l.entries l.count out x) → words ≡ link_words (test_holding t members (entries_of l))
+code_links t members l out x words low o e f = f
     ∙ (λ i. joined (link_words (slot_holding t.slots (o i))) (entry_link l.entries l.count (o i) (e i)))
     ∙ test_links t members l low
 

@@ -51,7 +51,7 @@ module _ (t : Table) (members : ℕ) (list : List Capability) (d : Sound t) (ok 
       rw w.walks (walk_chain edge low z (bound_low t members list d ok z e) w.count X ok.low w.exact)
 
   -- the last link of a chain
-  chain_end : {P : Type 0} {x z : ℕ} {cs : List ℕ} → Chain edge z x cs → ((y : ℕ) → edge y z ≡ true → P) → P
+  chain_end : {P : Type 0} {z x : ℕ} {cs : List ℕ} → Chain edge z x cs → ((y : ℕ) → edge y z ≡ true → P) → P
   chain_end {x = x} (last e) f = f x e
   chain_end (more e c) f = chain_end c f
 

@@ -16,11 +16,11 @@ module _ (edge : ℕ → ℕ → Bool) (low : (u v : ℕ) → edge u v ≡ true 
   after = there_after edge x
 
   -- a chain onward from what is there
-  chain_on : {y z : ℕ} {cs : List ℕ} (k m : ℕ) → has y (after k) ≡ true → Chain edge z y cs → m ≡ length cs + k → has z (after m) ≡ true
-  chain_on {y} {z} k m h (last e) q =
+  chain_on : {z y : ℕ} {cs : List ℕ} (k m : ℕ) → has y (after k) ≡ true → Chain edge z y cs → m ≡ length cs + k → has z (after m) ≡ true
+  chain_on {z} {y} k m h (last e) q =
       let f : m ≡ suc k = omega (arith, q) in
       subst⁻¹ (λ (i : ℕ). has z (after i) ≡ true) f (after_adds edge x k y z (low y z e).0 (low y z e).1 h e)
-  chain_on {y} k m h (more {y = v} e c) q = chain_on (suc k) m (after_adds edge x k y v (low y v e).0 (low y v e).1 h e) c (omega (arith, q))
+  chain_on {z} {y} k m h (more {y = v} e c) q = chain_on (suc k) m (after_adds edge x k y v (low y v e).0 (low y v e).1 h e) c (omega (arith, q))
 
   pub chain_after : {z : ℕ} {cs : List ℕ} → Chain edge z x cs → has z (after (length cs)) ≡ true
   chain_after {z} (last e) = after_first edge x 0 z (low x z e).1 e

@@ -20,11 +20,27 @@ use Rattle.bounds.proofs.Passing.{Lowest, lowest_from_lem}
 
 -- of two lists of which each comes first, or is the same, there is but one
 pub first_alone : {cs ds : List ℕ} → First cs ds → First ds cs → cs ≡ ds
-first_alone none none = refl
-first_alone (lower h) (lower g) = absurd (omega arith)
-first_alone (lower h) (next q) = absurd (omega arith)
-first_alone (next p) (lower g) = absurd (omega arith)
-first_alone (next {a} p) (next q) = ap (λ (l : List ℕ). a ∷ l) (first_alone p q)
+first_alone p q = both_first p q refl refl
+  where
+    front : List ℕ → ℕ
+    front [] = 0
+    front (a ∷ l) = a
+
+    rest : List ℕ → List ℕ
+    rest [] = []
+    rest (a ∷ l) = l
+
+    -- the same of any four lists that are two
+    both_first : {cs ds es fs : List ℕ} → First cs ds → First es fs → cs ≡ fs → ds ≡ es → cs ≡ ds
+    both_first none none e f = refl
+    both_first none (lower g) e f = absurd (omega (arith, ap length e))
+    both_first none (next q) e f = absurd (omega (arith, ap length e))
+    both_first (lower h) none e f = absurd (omega (arith, ap length e))
+    both_first (lower h) (lower g) e f = absurd (omega (arith, ap front e, ap front f))
+    both_first (lower h) (next q) e f = absurd (omega (arith, ap front e, ap front f))
+    both_first (next p) none e f = absurd (omega (arith, ap length e))
+    both_first (next p) (lower g) e f = absurd (omega (arith, ap front e, ap front f))
+    both_first (next {a = a} p) (next q) e f = ap (λ (l : List ℕ). a ∷ l) (both_first p q (ap rest e) (ap rest f))
 
 module _ (edge : ℕ → ℕ → Bool) (low : (x y : ℕ) → edge x y ≡ true → (x < 64) × (y < 64)) (z : ℕ) (hz : z < 64) where
   -- what reaches z within so many edges
