@@ -19,7 +19,7 @@ use Rattle.take_grant.specs.Layout.{IsTakeGrant, table}
 use Rattle.take_grant.specs.Walk.{found, stopped, walk_of}
 use Rattle.take_grant.specs.Imports.{import_number, slot_for, table_of, imported, import_of}
 use Rattle.take_grant.specs.Stores.{Joined}
-use Rattle.take_grant.specs.Exactness.{LaidOut, table_of_lem, WalkExact, AcceptsExactly, GivesBack, OneReading, UnbornOnRefusal, AlwaysSound, AlwaysTable, NoStock, NobodyMade, AliveActive, Numbered, InPlace, RightByRight, EachOther, StoreJoins, StoreConnects, SharingJoins}
+use Rattle.take_grant.specs.Exactness.{LaidOut, of_entities, WalkExact, AcceptsExactly, GivesBack, OneReading, UnbornOnRefusal, AlwaysSound, AlwaysTable, NoStock, NobodyMade, AliveActive, Numbered, InPlace, RightByRight, EachOther, StoreJoins, StoreConnects, SharingJoins}
 use Rattle.take_grant.proofs.Finds.{by_found}
 use Rattle.take_grant.proofs.Refusals.{walk_refuses}
 use Rattle.take_grant.proofs.Rights.{rows_of_lem}
@@ -53,13 +53,13 @@ pub accepts_exactly : AcceptsExactly
 unfolding AcceptsExactly
 accepts_exactly bytes b = (
   λ n. by_found (walk_of bytes)
-      (λ es rest e. table_of_lem es (walk_laid bytes es rest b e))
+      (λ es rest e. of_entities es (walk_laid bytes es rest b e))
       (λ why e. absurd (walk_refuses bytes why e (ap (λ (i : Imported). import_number i.reply) (sym (import_stopped bytes why e)) ∙ n))),
   λ l. accepted l,
 )
   where
     accepted : LaidOut bytes → import_number (import_of bytes).reply ≡ 0
-    accepted (table_of_lem es g) = ap (λ (i : Imported). import_number i.reply) (import_laid es bytes g)
+    accepted (of_entities es g) = ap (λ (i : Imported). import_number i.reply) (import_laid es bytes g)
 
 pub one_reading : OneReading
 unfolding OneReading

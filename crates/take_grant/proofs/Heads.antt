@@ -1,15 +1,13 @@
 -- The checks before the walk: what each of them gives, and that bytes which pass them all are walked over. Assumes nothing.
 use mathlib.Core.Path.{◌≡◌, refl, sym, ◌∙◌, ap}
 use mathlib.Core.Bool.{Bool, true, false}
-use mathlib.Core.Logic.{◌≢◌, inl, inr}
-use mathlib.Core.List.{List, [], ◌∷◌}
+use mathlib.Core.Logic.{◌≢◌}
+use mathlib.Core.List.{List}
 use Prim.Native.Nat.{ℕ, ◌≤◌, ◌<◌}
 use lib.Dec.{leb, eqb}
 use lib.ListN.{length, take, drop}
 use native.Mathlib.Omega.{arith}
 use borrow.Author.Tests.{lt-ltb, le-ltb, le-leb, lt-leb, eq-eqb, ne_eqb, leb-true, leb-false, eqb-true, eqb-false}
-use types.Run.{OneOf}
-use denote.Enum.Declared.{tag_of}
 use Rattle.mask.proofs.Tests.{by_cases}
 use Rattle.octets.specs.BigEndian.{byte_at, number_of}
 use Rattle.take_grant.specs.declared.ImportReply.{ImportReply}
@@ -17,7 +15,6 @@ use Rattle.take_grant.specs.declared.ImportReply.TheVariants as R
 use Rattle.take_grant.specs.Entities.{Entity}
 use Rattle.take_grant.specs.Walk.{Found, stopped, entities_from, walk_of}
 use Rattle.take_grant.specs.Helpers.{head_of}
-use Rattle.take_grant.specs.contracts.ImportReply.{the_type}
 
 module _ (bytes : List ℕ) where
   pub walk_short : length bytes < 4 → walk_of bytes ≡ stopped R.LengthWrong
@@ -64,14 +61,12 @@ head_walk bytes l = by_cases (eqb (number_of (take 2 bytes)) (length bytes))
     (λ b. rw (a, b) (walk_version bytes l f (eqb-false _ 1 b))))
     (λ a. rw a (walk_length bytes l (eqb-false _ _ a)))
 
--- any other reply than done stops it; the three have the tags 1 to 3
-by_tag : (r : ImportReply) (walk : Found (List Entity)) → OneOf (1 ∷ 2 ∷ 3 ∷ []) (tag_of the_type r) → by_head r walk ≡ stopped r
-by_tag R.Done walk (inl e) = absurd (omega arith)
-by_tag R.Done walk (inr (inl e)) = absurd (omega arith)
-by_tag R.Done walk (inr (inr e)) = absurd (omega arith)
-by_tag R.LengthWrong walk k = refl
-by_tag R.VersionWrong walk k = refl
-by_tag R.ValueWrong walk k = refl
+-- any other reply than done stops it
+not_done : (r : ImportReply) (walk : Found (List Entity)) → (r ≡ R.Done → ⊥) → by_head r walk ≡ stopped r
+not_done R.Done walk k = absurd (k refl)
+not_done R.LengthWrong walk k = refl
+not_done R.VersionWrong walk k = refl
+not_done R.ValueWrong walk k = refl
 
 -- a head that passes has passed the third test
 all_passed : (fits known few : Bool) → head_of fits known few ≡ R.Done → few ≡ true
@@ -86,8 +81,8 @@ module _ (bytes : List ℕ) (said : ℕ) (r : ImportReply) (l : 4 ≤ length byt
   head_is = head_walk bytes l
       ∙ ap (λ (x : ImportReply). by_head x (entities_from (byte_at bytes 3) (drop 4 bytes))) (ap (λ (n : ℕ). head_in n bytes) (sym e) ∙ sym f)
 
-  pub head_stops : OneOf (1 ∷ 2 ∷ 3 ∷ []) (tag_of the_type r) → walk_of bytes ≡ stopped r
-  head_stops k = head_is ∙ by_tag r _ k
+  pub head_stops : (r ≡ R.Done → ⊥) → walk_of bytes ≡ stopped r
+  head_stops k = head_is ∙ not_done r _ k
 
   pub head_passes : r ≡ R.Done → walk_of bytes ≡ entities_from (byte_at bytes 3) (drop 4 bytes)
   head_passes d = head_is ∙ ap (λ (x : ImportReply). by_head x (entities_from (byte_at bytes 3) (drop 4 bytes))) d

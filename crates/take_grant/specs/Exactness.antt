@@ -15,7 +15,7 @@ use Rattle.take_grant.specs.Stores.{StoreConnected, SharesCaps, Joined}
 -- the walk and the grammar ------------------------------------------------------------
 -- bytes that are a table of some entities
 pub data LaidOut (bytes : List ℕ) : Type 0 where
-  table_of_lem : (es : List Entity) → IsTakeGrant es bytes → LaidOut bytes
+  of_entities : (es : List Entity) → IsTakeGrant es bytes → LaidOut bytes
 
 -- what the walk finds is exactly what the grammar has
 unfoldable pub WalkExact : Type 0
