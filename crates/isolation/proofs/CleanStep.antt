@@ -10,7 +10,6 @@ use Rattle.table.specs.declared.Capability.{Capability}
 use Rattle.table.specs.declared.Record.{Record}
 use Rattle.table.specs.declared.Table.{Table}
 use Rattle.table.specs.Cells.{record_at, slot_at, is_empty}
-use Rattle.table.specs.Soundness.{sound}
 use Rattle.table.proofs.SoundFacts.{sound_true}
 use Rattle.rights.specs.declared.Need.TheVariants.{ReadOrWeak, Write, Send}
 use Rattle.rights.specs.declared.Need.{Need}

@@ -3,7 +3,6 @@
 -- points at it from outside is wk alone: a member's unlisted capability is wk alone, and rd, wr or tx from a member's listed
 -- capabilities or from the bound would bring it into the bound. Assumes nothing.
 use mathlib.Core.Path.{◌≡◌, refl, ap}
-use mathlib.Core.Logic.{◌≢◌}
 use mathlib.Core.Bool.{Bool, true, false, not, ◌&&◌, ◌||◌, false≢true}
 use mathlib.Core.List.{List}
 use Prim.Native.Nat.{ℕ, ◌≤◌}
