@@ -1,5 +1,3 @@
 -- What the proofs of the calls share.
 pub mod Answers
-pub mod Lies
-pub mod Values
 pub mod Written

@@ -1,7 +1,7 @@
-// The proved table as the case's firmware links it from C or Rust. Everything that crosses is a number, a slice of bytes (its
-// pointer, then its length) or a struct of document 01's fields. The step has its table lent; the other calls take the table by
-// value, so that nothing can change it between their checks and their answer. Every answer is one of document 01's numbers, or from 18 on of
-// document 02's; 0 is done.
+// The proved table as the case's firmware calls it from C or Rust; the crate `captable_c` exports each function here under its name. Everything
+// that crosses is a number, a slice of bytes (its pointer, then its length) or a struct of document 01's fields. The step has its table lent; the
+// other calls take the table by value, so that nothing can change it between their checks and their answer. Every answer is one of document
+// 01's numbers, or from 18 on of document 02's; 0 is done.
 #![tactic(auto)]
 
 ghost use Rattle.std.specs.Prelude.{◌≡◌, ◌++◌, length, drop};
@@ -59,24 +59,21 @@ pub struct ShownChain {
 }
 
 // The version of these calls, for a caller to hold to that of the header it was built with.
-#[unsafe(no_mangle)]
-pub extern "C" fn captable_version() -> u32
+pub fn captable_version() -> u32
     ensures { result ≡ version }
 {
     2560
 }
 
 // The wholly unborn table: every record unborn, with the maker 64. A table of zeros is not it.
-#[unsafe(no_mangle)]
-pub extern "C" fn captable_unborn() -> Table
+pub fn captable_unborn() -> Table
     ensures { result ≡ unborn_table }
 {
     table::unborn_table()
 }
 
 // 0 for a sound table, 1 for any other.
-#[unsafe(no_mangle)]
-pub extern "C" fn captable_sound(table: Table) -> u8
+pub fn captable_sound(table: Table) -> u8
     ensures { result ≡ sound_number table }
 {
     if table::is_sound(table) {
@@ -87,8 +84,7 @@ pub extern "C" fn captable_sound(table: Table) -> u8
 
 // One request on a table by value: its reply's number, and the table after it. The bytes are the code and then document 01's
 // fields; any others get 2. A refusal gives back the very table.
-#[unsafe(no_mangle)]
-pub extern "C" fn captable_step_by_value(table: Table, request: &[u8]) -> Outcome
+pub fn captable_step_by_value(table: Table, request: &[u8]) -> Outcome
     ensures { result ≡ stepped (step_of table (ask_from request.now)) }
 {
     let asked = wire::request_in(request);
@@ -105,8 +101,7 @@ pub extern "C" fn captable_step_by_value(table: Table, request: &[u8]) -> Outcom
 }
 
 // The same on a table that is lent: a refusal leaves it as it was.
-#[unsafe(no_mangle)]
-pub extern "C" fn captable_step(table: &mut Table, request: &[u8]) -> u8
+pub fn captable_step(table: &mut Table, request: &[u8]) -> u8
     ensures { (result ≡ reply_number (step_of table.old (ask_from request.now)).reply) × (table.new ≡ (step_of table.old (ask_from request.now)).table) }
 {
     let before = *table;
@@ -116,9 +111,9 @@ pub extern "C" fn captable_step(table: &mut Table, request: &[u8]) -> u8
     a.number
 }
 
-// The lent step by value, on a local that is lent for the call: whoever calls this one has no reference to a table, and needs no walk.
+// The lent step by value, on a local that is lent for the call: whoever calls this one has no reference to a table.
 pub fn stepped_in_place(table: Table, request: &[u8]) -> Outcome
-    ensures { result ≡ stepped (step_of table (ask_from request.now)) }
+    ensures in_place { result ≡ stepped (step_of table (ask_from request.now)) }
 {
     let mut held = table;
     let number = captable_step(&mut held, request);
@@ -129,8 +124,7 @@ pub fn stepped_in_place(table: Table, request: &[u8]) -> Outcome
 }
 
 // Potential access, answered whole; for a table that is not sound the number 1 and no rights.
-#[unsafe(no_mangle)]
-pub extern "C" fn captable_access(table: Table) -> Relation
+pub fn captable_access(table: Table) -> Relation
     ensures { result ≡ related (access_of table) }
 {
     let a = access::potential_access(table);
@@ -144,8 +138,7 @@ pub extern "C" fn captable_access(table: Table) -> Relation
 }
 
 // The same answer, worked by groups (document 02, 2.9).
-#[unsafe(no_mangle)]
-pub extern "C" fn captable_access_by_groups(table: Table) -> Relation
+pub fn captable_access_by_groups(table: Table) -> Relation
     ensures { result ≡ related (access_of table) }
 {
     let worked = groups::potential_access(table);
@@ -159,8 +152,7 @@ pub extern "C" fn captable_access_by_groups(table: Table) -> Relation
 }
 
 // The confinement test of a set of members and a list, two bytes for each entry: target, rights.
-#[unsafe(no_mangle)]
-pub extern "C" fn captable_test(table: Table, members: u64, list: &[u8]) -> Finding
+pub fn captable_test(table: Table, members: u64, list: &[u8]) -> Finding
     ensures { result ≡ found (test_of table members (entries_in list.now)) }
 {
     let entries = entries::list_of(list);
@@ -175,8 +167,7 @@ pub extern "C" fn captable_test(table: Table, members: u64, list: &[u8]) -> Find
 }
 
 // The same answer, worked by groups (document 02, 2.9).
-#[unsafe(no_mangle)]
-pub extern "C" fn captable_test_by_groups(table: Table, members: u64, list: &[u8]) -> Finding
+pub fn captable_test_by_groups(table: Table, members: u64, list: &[u8]) -> Finding
     ensures { result ≡ found (test_of table members (entries_in list.now)) }
 {
     let entries = entries::list_of(list);
@@ -191,8 +182,7 @@ pub extern "C" fn captable_test_by_groups(table: Table, members: u64, list: &[u8
 }
 
 // A shortest chain of links from the stand-in to an object of the bound, the first of its length; the test is that of `captable_test`.
-#[unsafe(no_mangle)]
-pub extern "C" fn captable_chain(table: Table, members: u64, list: &[u8], object: u8) -> ShownChain
+pub fn captable_chain(table: Table, members: u64, list: &[u8], object: u8) -> ShownChain
     ensures { result ≡ chained (chain_of table members (entries_in list.now) object) }
 {
     let entries = entries::list_of(list);
@@ -208,8 +198,7 @@ pub extern "C" fn captable_chain(table: Table, members: u64, list: &[u8], object
 }
 
 // Reads an image of either version; on every refusal with the wholly unborn table.
-#[unsafe(no_mangle)]
-pub extern "C" fn captable_read(image: &[u8]) -> Outcome
+pub fn captable_read(image: &[u8]) -> Outcome
     ensures { result ≡ loaded (read_of image.now) }
 {
     let l = image::read(image);
@@ -223,8 +212,7 @@ pub extern "C" fn captable_read(image: &[u8]) -> Outcome
 }
 
 // Brings in a table of the older rigs, document 02, 2.2; on every refusal with the wholly unborn table.
-#[unsafe(no_mangle)]
-pub extern "C" fn captable_import(bytes: &[u8]) -> Outcome
+pub fn captable_import(bytes: &[u8]) -> Outcome
     ensures { result ≡ brought_in (import_of bytes.now) }
 {
     let i = take_grant::import(bytes);
@@ -238,8 +226,7 @@ pub extern "C" fn captable_import(bytes: &[u8]) -> Outcome
 }
 
 // Writes a table's image of version 2 into the first 1,987 bytes of a buffer; a refusal leaves every byte.
-#[unsafe(no_mangle)]
-pub extern "C" fn captable_write(table: Table, buffer: &mut [u8]) -> u8
+pub fn captable_write(table: Table, buffer: &mut [u8]) -> u8
     ensures number { result ≡ write_number (write_refusal Two table buffer.old) }
     ensures left { buffer.new ≡ written_of Two table buffer.old }
 {
@@ -248,8 +235,7 @@ pub extern "C" fn captable_write(table: Table, buffer: &mut [u8]) -> u8
 }
 
 // The older form: an image of version 1 in the first 1,923 bytes. It has no place for a maker, so 23 where some maker is not 64.
-#[unsafe(no_mangle)]
-pub extern "C" fn captable_write_older(table: Table, buffer: &mut [u8]) -> u8
+pub fn captable_write_older(table: Table, buffer: &mut [u8]) -> u8
     ensures number { result ≡ write_number (write_refusal One table buffer.old) }
     ensures left { buffer.new ≡ written_of One table buffer.old }
 {
@@ -259,8 +245,7 @@ pub extern "C" fn captable_write_older(table: Table, buffer: &mut [u8]) -> u8
 
 // Puts what the program `confine` prints for the input at the buffer's start, and says how many bytes that is: at most 191. The
 // bytes after them are left as they were.
-#[unsafe(no_mangle)]
-pub extern "C" fn captable_confine(input: &[u8], out: &mut [u8; 256]) -> usize
+pub fn captable_confine(input: &[u8], out: &mut [u8; 256]) -> usize
     ensures count { result ≡ length (printed_of input.now) }
     ensures printed { out.new ≡ printed_of input.now ++ drop (length (printed_of input.now)) out.old }
 {

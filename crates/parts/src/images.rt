@@ -2,9 +2,10 @@
 // the image and of the buffer, two bytes each, and the image; of the second the 1,984 bytes of a table and the buffer's length.
 ghost use Rattle.std.specs.Prelude.{◌≡◌, length};
 
-use crate::output;
+use crate::{output, source};
 use cases::{digest, input};
 use image::{Loaded, Version};
+use std::io::{self, Read, Write};
 use table::Table;
 
 // A buffer before it is written: a byte that should have stayed then shows.
@@ -15,62 +16,60 @@ fn untouched() -> [u8; 4096]
 }
 
 // The image that comes next in the file and fills the slice.
-fn load(fd: i32, bytes: &mut [u8]) -> Loaded {
-    io::read_full(fd, bytes);
-    image::read(bytes)
+fn load<R: Read>(from: &mut R, bytes: &mut [u8]) -> io::Result<Loaded> {
+    source::fill(from, bytes)?;
+    Ok(image::read(bytes))
 }
 
 // Reads an image, prints the number and the table, and gives the table.
-fn read(fd: i32, length: u16) -> Table {
-    let mut space = io::buffer();
-    let n = io::count(length as isize, &space);
-    let loaded = load(fd, &mut space[..n]);
+fn read<R: Read, W: Write>(from: &mut R, out: &mut W, length: u16) -> io::Result<Table> {
+    let mut space = [0u8; 4096];
+    let n = (length as usize).min(4096);
+    let loaded = load(from, &mut space[..n])?;
     let reply = loaded.reply;
     let t = loaded.table;
-    output::number(numbers::of_read(reply) as u64);
-    output::digest(digest::of_table(t));
-    t
+    output::number(out, numbers::of_read(reply) as u64)?;
+    output::digest(out, digest::of_table(t))?;
+    Ok(t)
 }
 
 // Writes a table into a buffer that is the start of a larger one, and prints the number and the larger one.
-fn write_as(t: Table, length: u16, v: Version) {
+fn write_as<W: Write>(out: &mut W, t: Table, length: u16, v: Version) -> io::Result<()> {
     let mut space = untouched();
-    let n = io::count(length as isize, &space);
+    let n = (length as usize).min(4096);
     let reply = image_out::write(t, &mut space[..n], v);
-    output::number(numbers::of_write(reply) as u64);
-    output::digest(digest::of_space(&space));
+    output::number(out, numbers::of_write(reply) as u64)?;
+    output::digest(out, digest::of_space(&space))
 }
 
 // The same as version 2, and then in the older form.
-fn write(t: Table, length: u16) {
-    write_as(t, length, Version::Two);
-    output::text(b" ");
-    write_as(t, length, Version::One);
+fn write<W: Write>(out: &mut W, t: Table, length: u16) -> io::Result<()> {
+    write_as(out, t, length, Version::Two)?;
+    output::text(out, b" ")?;
+    write_as(out, t, length, Version::One)
 }
 
-pub fn case(fd: i32, number: u64) -> bool {
+pub fn case<R: Read, W: Write>(from: &mut R, out: &mut W, number: u64) -> io::Result<bool> {
     let mut head = [0u8; 4];
-    let got = io::read_full(fd, &mut head);
-    if got < 4 {
-        return false;
+    if !source::fill(from, &mut head)? {
+        return Ok(false);
     }
-    output::number(number);
-    let t = read(fd, input::short(&head, 0));
-    output::text(b" ");
-    write(t, input::short(&head, 2));
-    output::text(b"\n");
-    true
+    output::number(out, number)?;
+    let t = read(from, out, input::short(&head, 0))?;
+    output::text(out, b" ")?;
+    write(out, t, input::short(&head, 2))?;
+    output::text(out, b"\n")?;
+    Ok(true)
 }
 
-pub fn raw_case(fd: i32, number: u64) -> bool {
+pub fn raw_case<R: Read, W: Write>(from: &mut R, out: &mut W, number: u64) -> io::Result<bool> {
     let mut bytes = [0u8; 1986];
-    let got = io::read_full(fd, &mut bytes);
-    if got < 1986 {
-        return false;
+    if !source::fill(from, &mut bytes)? {
+        return Ok(false);
     }
-    output::number(number);
+    output::number(out, number)?;
     let t = input::raw_table(&bytes);
-    write(t, input::short(&bytes, 1984));
-    output::text(b"\n");
-    true
+    write(out, t, input::short(&bytes, 1984))?;
+    output::text(out, b"\n")?;
+    Ok(true)
 }

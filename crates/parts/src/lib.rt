@@ -8,4 +8,5 @@ pub mod linked; // linked.rt: links
 pub mod output; // output.rt: the words and numbers of a line
 pub mod relations; // relations.rt: potential access
 pub mod shown; // shown.rt: chains
+pub mod source; // source.rt: the bytes of a case
 pub mod verdicts; // verdicts.rt: confinement tests

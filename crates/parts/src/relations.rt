@@ -1,28 +1,33 @@
 // Potential access, by the rules and by groups. A case is the 1,984 bytes of a table.
-use crate::output;
+use crate::{output, source};
 use access::Access;
 use cases::{digest, input};
+use std::io::{self, Read, Write};
 
-fn answer(number: u64, found: Access) {
+fn answer<W: Write>(out: &mut W, number: u64, found: Access) -> io::Result<()> {
     let reply = found.reply;
     let rows = found.rows;
-    output::number(number);
-    output::number(numbers::of_access(reply) as u64);
-    output::digest(digest::of_words(&rows));
-    output::text(b"\n");
+    output::number(out, number)?;
+    output::number(out, numbers::of_access(reply) as u64)?;
+    output::digest(out, digest::of_words(&rows))?;
+    output::text(out, b"\n")
 }
 
-pub fn case(fd: i32, number: u64, by_groups: bool) -> bool {
+pub fn case<R: Read, W: Write>(
+    from: &mut R,
+    out: &mut W,
+    number: u64,
+    by_groups: bool,
+) -> io::Result<bool> {
     let mut bytes = [0u8; 1984];
-    let got = io::read_full(fd, &mut bytes);
-    if got < 1984 {
-        return false;
+    if !source::fill(from, &mut bytes)? {
+        return Ok(false);
     }
     let t = input::raw_table(&bytes);
     if by_groups {
-        answer(number, groups::potential_access(t));
+        answer(out, number, groups::potential_access(t))?;
     } else {
-        answer(number, access::potential_access(t));
+        answer(out, number, access::potential_access(t))?;
     }
-    true
+    Ok(true)
 }

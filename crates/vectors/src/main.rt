@@ -4,6 +4,8 @@
 #![tactic(auto)]
 
 use parts::{images, imports, linked, output, relations, shown, verdicts};
+use std::fs::File;
+use std::io::{self, Read, Write};
 use turns::Turn;
 
 mod turns; // turns.rt: requests
@@ -26,44 +28,56 @@ enum Part {
 }
 
 // One case, or the end of the file. Only a chain uses and changes the table.
-fn turn(part: Part, fd: i32, number: u64, t: table::Table) -> Turn {
-    match part {
-        Part::Images => turns::kept(images::case(fd, number), t),
-        Part::Writes => turns::kept(images::raw_case(fd, number), t),
-        Part::Steps => turns::kept(turns::case(fd, number), t),
-        Part::Chain => turns::link(fd, number, t, false),
-        Part::Lent => turns::link(fd, number, t, true),
-        Part::Tests => turns::kept(verdicts::case(fd, number, false), t),
-        Part::GroupTests => turns::kept(verdicts::case(fd, number, true), t),
-        Part::Relations => turns::kept(relations::case(fd, number, false), t),
-        Part::GroupRelations => turns::kept(relations::case(fd, number, true), t),
-        Part::Links => turns::kept(linked::case(fd, number), t),
-        Part::Shown => turns::kept(shown::case(fd, number), t),
-        Part::Imports => turns::kept(imports::case(fd, number), t),
-    }
+fn turn<R: Read, W: Write>(
+    part: Part,
+    from: &mut R,
+    out: &mut W,
+    number: u64,
+    t: table::Table,
+) -> io::Result<Turn> {
+    let found = match part {
+        Part::Images => images::case(from, out, number)?,
+        Part::Writes => images::raw_case(from, out, number)?,
+        Part::Steps => turns::case(from, out, number)?,
+        Part::Chain => return turns::link(from, out, number, t, false),
+        Part::Lent => return turns::link(from, out, number, t, true),
+        Part::Tests => verdicts::case(from, out, number, false)?,
+        Part::GroupTests => verdicts::case(from, out, number, true)?,
+        Part::Relations => relations::case(from, out, number, false)?,
+        Part::GroupRelations => relations::case(from, out, number, true)?,
+        Part::Links => linked::case(from, out, number)?,
+        Part::Shown => shown::case(from, out, number)?,
+        Part::Imports => imports::case(from, out, number)?,
+    };
+    Ok(turns::kept(found, t))
 }
 
 // Every case of a file; how many there were. A proved loop has to end, and nothing says that a file does, so a limit that no file
 // comes near stands in.
-fn cases(part: Part, fd: i32, start: table::Table) -> u64 {
+fn cases<R: Read, W: Write>(
+    part: Part,
+    from: &mut R,
+    out: &mut W,
+    start: table::Table,
+) -> io::Result<u64> {
     let mut t = start;
     let mut done: u64 = 0;
     while done < 1000000 {
-        let next = turn(part, fd, done, t);
+        let next = turn(part, from, out, done, t)?;
         if !next.found {
-            return done;
+            return Ok(done);
         }
         let after = next.table;
         t = after;
         done = done + 1;
     }
-    done
+    Ok(done)
 }
 
 // The table that a chain starts from stands before its requests.
-fn start(part: Part, fd: i32) -> table::Table {
+fn start<R: Read>(part: Part, from: &mut R) -> io::Result<table::Table> {
     match part {
-        Part::Chain | Part::Lent => turns::chain_start(fd),
+        Part::Chain | Part::Lent => turns::chain_start(from),
         Part::Images
         | Part::Writes
         | Part::Steps
@@ -73,80 +87,117 @@ fn start(part: Part, fd: i32) -> table::Table {
         | Part::GroupRelations
         | Part::Links
         | Part::Shown
-        | Part::Imports => table::unborn_table(),
+        | Part::Imports => Ok(table::unborn_table()),
     }
 }
 
 // A part: its heading, its cases, and their count.
-fn run(part: Part, path: &[u8], heading: &[u8]) {
-    output::text(heading);
-    let fd = os::open_read(path);
-    if fd < 0 {
-        os::fail(path);
-        return;
-    }
-    let first = start(part, fd);
-    let done = cases(part, fd, first);
-    libc::close(fd);
-    output::total(done);
+fn run<W: Write>(
+    rt: &HostRuntime,
+    out: &mut W,
+    part: Part,
+    path: &str,
+    heading: &[u8],
+) -> io::Result<()> {
+    output::text(out, heading)?;
+    let mut from = File::open(rt, path)?;
+    let first = start(part, &mut from)?;
+    let done = cases(part, &mut from, out, first)?;
+    output::total(out, done)
 }
 
-fn main() {
+fn main(rt: HostRuntime) -> io::Result<()> {
+    let mut out = rt.stdout();
     run(
+        &rt,
+        &mut out,
         Part::Images,
-        b"images",
+        "images",
         b"images: case, read: number, table; written back: number, buffer; in the older form: number, buffer\n",
-    );
+    )?;
     run(
+        &rt,
+        &mut out,
         Part::Writes,
-        b"writes",
+        "writes",
         b"tables written, sound or not: case, number, buffer; in the older form: number, buffer\n",
-    );
-    run(Part::Steps, b"steps", b"steps: case, number, table after\n");
+    )?;
     run(
+        &rt,
+        &mut out,
+        Part::Steps,
+        "steps",
+        b"steps: case, number, table after\n",
+    )?;
+    run(
+        &rt,
+        &mut out,
         Part::Chain,
-        b"chain",
+        "chain",
         b"chain on one table: case, number, table after\n",
-    );
+    )?;
     run(
+        &rt,
+        &mut out,
         Part::Lent,
-        b"chain",
+        "chain",
         b"the same chain, the table lent: case, number, table after\n",
-    );
+    )?;
     run(
+        &rt,
+        &mut out,
         Part::Chain,
-        b"edges",
+        "edges",
         b"edges of fields and lists, on one table: case, number, table after\n",
-    );
+    )?;
     run(
+        &rt,
+        &mut out,
         Part::Tests,
-        b"tests",
+        "tests",
         b"confinement tests: case, number, rounds, bound\n",
-    );
+    )?;
     run(
+        &rt,
+        &mut out,
         Part::GroupTests,
-        b"tests",
+        "tests",
         b"the same by groups: case, number, rounds, bound\n",
-    );
+    )?;
     run(
+        &rt,
+        &mut out,
         Part::Relations,
-        b"access",
+        "access",
         b"potential access: case, number, relation\n",
-    );
+    )?;
     run(
+        &rt,
+        &mut out,
         Part::GroupRelations,
-        b"access",
+        "access",
         b"the same by groups: case, number, relation\n",
-    );
+    )?;
     run(
+        &rt,
+        &mut out,
         Part::Links,
-        b"tests",
+        "tests",
         b"links of the same: case, table's links, with the list's holder, rounds, what it reaches\n",
-    );
+    )?;
     run(
+        &rt,
+        &mut out,
         Part::Shown,
-        b"shown",
+        "shown",
         b"chains shown: case, number, count, numbers, digest of all 63\n",
-    );
-    run(Part::Imports, b"imports", b"imports: case, number, table\n");
+    )?;
+    run(
+        &rt,
+        &mut out,
+        Part::Imports,
+        "imports",
+        b"imports: case, number, table\n",
+    )?;
+    out.flush()
 }

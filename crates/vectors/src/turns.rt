@@ -2,8 +2,9 @@
 // A case is the 1,984 bytes of a table and the 29 of a request; a chain is a table and then requests alone.
 use captable::Outcome;
 use cases::{digest, input};
-use parts::output;
+use parts::{output, source};
 use requests::{PairList, Request};
+use std::io::{self, Read, Write};
 use steps::Stepped;
 use table::Table;
 
@@ -23,45 +24,44 @@ pub fn kept(found: bool, t: Table) -> Turn {
 }
 
 // Prints the line of a step.
-fn line(number: u64, reply: u8, after: Table) {
-    output::number(number);
-    output::number(reply as u64);
-    output::digest(digest::of_table(after));
-    output::text(b"\n");
+fn line<W: Write>(out: &mut W, number: u64, reply: u8, after: Table) -> io::Result<()> {
+    output::number(out, number)?;
+    output::number(out, reply as u64)?;
+    output::digest(out, digest::of_table(after))?;
+    output::text(out, b"\n")
 }
 
 // Prints the line of a step by value, and gives the table after it.
-fn answer(number: u64, stepped: Stepped) -> Table {
+fn answer<W: Write>(out: &mut W, number: u64, stepped: Stepped) -> io::Result<Table> {
     let reply = stepped.reply;
     let after = stepped.table;
-    line(number, numbers::of_reply(reply), after);
-    after
+    line(out, number, numbers::of_reply(reply), after)?;
+    Ok(after)
 }
 
 // The same of a step on the table lent.
-fn answer_lent(number: u64, outcome: Outcome) -> Table {
+fn answer_lent<W: Write>(out: &mut W, number: u64, outcome: Outcome) -> io::Result<Table> {
     let after = outcome.table;
-    line(number, outcome.number, after);
-    after
+    line(out, number, outcome.number, after)?;
+    Ok(after)
 }
 
-pub fn case(fd: i32, number: u64) -> bool {
+pub fn case<R: Read, W: Write>(from: &mut R, out: &mut W, number: u64) -> io::Result<bool> {
     let mut bytes = [0u8; 2013];
-    let got = io::read_full(fd, &mut bytes);
-    if got < 2013 {
-        return false;
+    if !source::fill(from, &mut bytes)? {
+        return Ok(false);
     }
     let t = input::raw_table(&bytes);
     let request = input::request(&bytes, 1984);
     let list = input::pair_list(&bytes, 1984);
-    answer(number, kernel::step(t, request, list));
-    true
+    answer(out, number, kernel::step(t, request, list))?;
+    Ok(true)
 }
 
-pub fn chain_start(fd: i32) -> Table {
+pub fn chain_start<R: Read>(from: &mut R) -> io::Result<Table> {
     let mut bytes = [0u8; 1984];
-    io::read_full(fd, &mut bytes);
-    input::raw_table(&bytes)
+    source::fill(from, &mut bytes)?;
+    Ok(input::raw_table(&bytes))
 }
 
 // A step on the table lent, with the first `count` of the bytes.
@@ -81,21 +81,26 @@ fn lent(t: Table, request: Request, list: PairList) -> Outcome {
 }
 
 // The next request of a chain, by value or on the table lent.
-pub fn link(fd: i32, number: u64, t: Table, in_place: bool) -> Turn {
+pub fn link<R: Read, W: Write>(
+    from: &mut R,
+    out: &mut W,
+    number: u64,
+    t: Table,
+    in_place: bool,
+) -> io::Result<Turn> {
     let mut bytes = [0u8; 29];
-    let got = io::read_full(fd, &mut bytes);
-    if got < 29 {
-        return kept(false, t);
+    if !source::fill(from, &mut bytes)? {
+        return Ok(kept(false, t));
     }
     let request = input::request(&bytes, 0);
     let list = input::pair_list(&bytes, 0);
     let after = if in_place {
-        answer_lent(number, lent(t, request, list))
+        answer_lent(out, number, lent(t, request, list))?
     } else {
-        answer(number, kernel::step(t, request, list))
+        answer(out, number, kernel::step(t, request, list))?
     };
-    Turn {
+    Ok(Turn {
         found: true,
         table: after,
-    }
+    })
 }
