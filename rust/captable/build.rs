@@ -1,4 +1,4 @@
-//! Links the archive that `rt staticlib captable` writes, and says in one sentence what is missing
+//! Links the archive that `tools/build` writes, and says in one sentence what is missing
 //! where that cannot work.
 
 use std::env;

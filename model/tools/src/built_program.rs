@@ -42,8 +42,8 @@ impl Program<'_> {
         command
     }
 
-    /// The status that goes with an output. Without a verb there is but one: a program of the proved
-    /// language has no other.
+    /// The status that goes with an output. Without a verb there is but one: the
+    /// proved program has another only where reading or printing fails.
     fn status(&self, expected: &[u8]) -> i32 {
         match (self.verb, expected) {
             (None, _) => 0,
@@ -52,7 +52,7 @@ impl Program<'_> {
         }
     }
 
-    /// What must happen on a closed standard input. The proved program cannot tell it from an empty one.
+    /// What must happen on a closed standard input. The proved program takes it for an empty one.
     fn closed(&self) -> Case {
         let mut case = model_case("a closed standard input", Vec::new());
         if self.verb.is_some() {

@@ -195,7 +195,7 @@ fn a_refused_step_is_stated_with_the_table_as_it_was() {
              table-0007 : Table\n\
              table-0007 = {table}\n\
              \n\
-             case-0007 : _≡_ {{A = ℕ × Table}} (stepped (stepOf table-0007 (read 0 5))) \
+             case-0007 : ◌≡◌ {{A = ℕ × Table}} (stepped (step_of table-0007 (read 0 5))) \
              (4, table-0007)\n\
              unfolding table-0007 A.b C.d\n\
              case-0007 = refl {{0}} {{A = ℕ × Table}} {{a = (4, table-0007)}}\n\
@@ -220,7 +220,7 @@ fn a_step_that_is_done_is_stated_with_the_table_after_it() {
     assert_eq!(case.answer, Answer::Table(0, after.clone()));
     let text = declarations(&case, 12, "A.b");
     assert!(text.contains(&format!("after-0012 = {}\n", terms::table(&after))));
-    assert!(text.contains("(stepped (stepOf table-0012 (write 4 0 7))) (0, after-0012)\n"));
+    assert!(text.contains("(stepped (step_of table-0012 (write 4 0 7))) (0, after-0012)\n"));
     assert!(text.contains("unfolding table-0012 after-0012 A.b\n"));
 }
 
@@ -243,7 +243,7 @@ fn shown_case(object: u8) -> ShownCase {
 
 #[test]
 fn a_chain_is_stated_with_zeros_after_its_numbers() {
-    let statement = "case-0005 : _≡_ {A = ℕ × ℕ × List ℕ} (shown (chainOf table-0005 32 list-0005";
+    let statement = "case-0005 : ◌≡◌ {A = ℕ × ℕ × List ℕ} (shown (chain_of table-0005 32 list-0005";
     let zeros = vec!["0"; 61].join(" ∷ ");
     for (object, answer, numbers) in [
         (2, "0, 2", format!("1 ∷ 2 ∷ {zeros} ∷ []")),
@@ -270,7 +270,7 @@ fn a_test_is_stated_with_its_bound_and_its_rounds() {
     for (test, answer) in [(example_1(), "0, 7, 2"), (refused, "12, 0, 0")] {
         let text = declarations(&Case::new(Question::Test(test)), 5, "A.b");
         let statement = format!(
-            "case-0005 : _≡_ {{A = ℕ × ℕ × ℕ}} (tested (testOf table-0005 32 list-0005)) ({answer})\n"
+            "case-0005 : ◌≡◌ {{A = ℕ × ℕ × ℕ}} (tested (test_of table-0005 32 list-0005)) ({answer})\n"
         );
         assert!(text.contains(&statement), "{text}");
     }
@@ -284,8 +284,8 @@ fn what_is_there_is_stated_for_each_number_of_rounds() {
     });
     let text = declarations(&case, 5, "A.b");
     assert!(text.starts_with("-- case 5: there after rounds, done\n"));
-    let statement = "case-0005 : _≡_ {A = List ℕ} \
-                     (map (objectsAfter table-0005 32 list-0005) (0 ∷ 1 ∷ 2 ∷ 3 ∷ [])) \
+    let statement = "case-0005 : ◌≡◌ {A = List ℕ} \
+                     (map (objects_after table-0005 32 list-0005) (0 ∷ 1 ∷ 2 ∷ 3 ∷ [])) \
                      (0 ∷ 2 ∷ 7 ∷ 7 ∷ [])\n";
     assert!(text.contains(statement), "{text}");
 }
@@ -297,7 +297,7 @@ fn a_least_chain_is_stated_over_words_of_links() {
     let case = Case::new(Question::LeastChain(shown_case(2)));
     let text = declarations(&case, 5, "A.b").replace("\n    ", " ");
     let statement =
-        "case-0005 : _≡_ {A = List ℕ} (leastChain (wordEdge words-0005) 5 2) (1 ∷ 2 ∷ [])\n";
+        "case-0005 : ◌≡◌ {A = List ℕ} (least_chain (word_edge words-0005) 5 2) (1 ∷ 2 ∷ [])\n";
     assert!(text.contains(statement), "{text}");
     let (from_1, from_4) = (1 | 1 << 2 | 1 << 5, 1 << 3);
     let words = format!("words-0005 = 2 ∷ {from_1} ∷ 0 ∷ 16 ∷ {from_4} ∷ 2 ∷ 4 ∷ 0 ∷ 0 ∷ ");
@@ -319,7 +319,7 @@ fn capabilities_are_stated_with_whether_they_pass() {
     assert!(text.contains("held-0005 = slot 3 0 ∷ slot 3 1 ∷ "));
     let (passing, others) = (["true"; 5].join(" ∷ "), ["false"; 11].join(" ∷ "));
     let statement = format!(
-        "case-0005 : _≡_ {{A = List Bool}} (map (passes list-0005) held-0005) \
+        "case-0005 : ◌≡◌ {{A = List Bool}} (map (passes list-0005) held-0005) \
          ({passing} ∷ {others} ∷ [])\n"
     );
     assert!(text.contains(&statement), "{text}");
@@ -336,7 +336,7 @@ fn copies_are_stated_with_what_the_slot_then_holds() {
     assert!(text.starts_with("-- case 5: where a copy lands, done\n"));
     assert!(text.contains("held-0005 : Capability\nheld-0005 = slot 3 9\n"));
     assert!(text.contains("copies-0005 = free ∷ slot 0 2 ∷ []\n"));
-    let statement = "case-0005 : _≡_ {A = List Capability} (map (landed held-0005) copies-0005) \
+    let statement = "case-0005 : ◌≡◌ {A = List Capability} (map (landed held-0005) copies-0005) \
                      (slot 3 9 ∷ slot 0 2 ∷ [])\n";
     assert!(text.contains(statement), "{text}");
 }
@@ -350,7 +350,7 @@ fn rights_are_stated_with_what_they_are_worth() {
     let text = declarations(&case, 5, "A.b");
     assert!(text.starts_with("-- case 5: worth of rights, done\n"));
     assert!(text.contains("values-0005 = 10 ∷ 5 ∷ 242 ∷ []\n"));
-    let statement = "case-0005 : _≡_ {A = List Worth} (map worthOf values-0005) \
+    let statement = "case-0005 : ◌≡◌ {A = List Worth} (map worth_of values-0005) \
                      ((0, false, true, true) ∷ (4, true, false, false) ∷ (0, false, true, false) ∷ [])\n";
     assert!(text.contains(statement), "{text}");
 }
@@ -362,9 +362,9 @@ fn needs_are_stated_with_the_rights_that_meet_them() {
     });
     let text = declarations(&case, 5, "A.b");
     assert!(text.starts_with("-- case 5: needed rights, done\n"));
-    let met = |need: &str| format!("map (needMet {need}) values-0005");
+    let met = |need: &str| format!("map (need_met {need}) values-0005");
     let statement = format!(
-        "case-0005 : _≡_ {{A = List Bool × List Bool × List Bool}} ({}, {}, {}) \
+        "case-0005 : ◌≡◌ {{A = List Bool × List Bool × List Bool}} ({}, {}, {}) \
          (false ∷ true ∷ false ∷ [], true ∷ false ∷ true ∷ [], true ∷ false ∷ false ∷ [])\n",
         met("ReadOrWeak"),
         met("Write"),
@@ -381,7 +381,7 @@ fn capabilities_are_stated_with_what_they_are_weakened_to() {
     let text = declarations(&case, 5, "A.b");
     assert!(text.starts_with("-- case 5: weakened rights, done\n"));
     assert!(text.contains("held-0005 = slot 3 10 ∷ slot 3 5 ∷ slot 3 0 ∷ []\n"));
-    let statement = "case-0005 : _≡_ {A = List Capability} (map weaken held-0005) \
+    let statement = "case-0005 : ◌≡◌ {A = List Capability} (map weaken held-0005) \
                      (free ∷ slot 3 4 ∷ free ∷ [])\n";
     assert!(text.contains(statement), "{text}");
 }
@@ -397,7 +397,7 @@ fn soundness_is_stated_for_each_maker() {
     let text = declarations(&case, 5, "A.b");
     assert!(text.starts_with("-- case 5: sound by makers, refused 1\n"));
     assert!(text.contains("makers-0005 = 64 ∷ 3 ∷ 4 ∷ 7 ∷ []\n"));
-    let statement = "case-0005 : _≡_ {A = List Bool} (map (soundIf table-0005 3) makers-0005) \
+    let statement = "case-0005 : ◌≡◌ {A = List Bool} (map (sound_if table-0005 3) makers-0005) \
                      (true ∷ true ∷ true ∷ false ∷ [])\n";
     assert!(text.contains(statement), "{text}");
 }
@@ -410,27 +410,27 @@ fn groups_and_rows_are_stated_for_each_number() {
     for (row, definition, sets) in [
         (
             GroupRow::Group,
-            "groupOf (tableHolding table-0005)",
+            "group_of (table_holding table-0005)",
             [group, 4],
         ),
         (
             GroupRow::Over(RD),
-            "rowByGroups (tableHolding table-0005) rd",
+            "row_by_groups (table_holding table-0005) rd",
             [group, 4],
         ),
         (
             GroupRow::Over(WR),
-            "rowByGroups (tableHolding table-0005) wr",
+            "row_by_groups (table_holding table-0005) wr",
             [group, 4],
         ),
         (
             GroupRow::Over(WK),
-            "rowByGroups (tableHolding table-0005) wk",
+            "row_by_groups (table_holding table-0005) wk",
             [group, weakly],
         ),
         (
             GroupRow::Over(TX),
-            "rowByGroups (tableHolding table-0005) tx",
+            "row_by_groups (table_holding table-0005) tx",
             [group, 4],
         ),
     ] {
@@ -443,7 +443,7 @@ fn groups_and_rows_are_stated_for_each_number() {
         assert!(text.contains("of-0005 = 5 ∷ 2 ∷ 7 ∷ []\n"));
         let [first, second] = sets;
         let statement = format!(
-            "case-0005 : _≡_ {{A = List ℕ}} (map ({definition}) of-0005) ({first} ∷ {second} ∷ 0 ∷ [])\n"
+            "case-0005 : ◌≡◌ {{A = List ℕ}} (map ({definition}) of-0005) ({first} ∷ {second} ∷ 0 ∷ [])\n"
         );
         assert!(text.contains(&statement), "{text}");
     }
@@ -460,7 +460,7 @@ fn potential_access_by_groups_is_stated_whole() {
     for (table, number, weakly_of_2) in [(Table::k(), 0, 103), (unsound, 1, 0)] {
         let text = declarations(&Case::new(Question::AccessByGroups { table }), 5, "A.b");
         let statement = format!(
-            "case-0005 : _≡_ {{A = ℕ × List ℕ}} (related (accessByGroups table-0005)) ({number}, rows-0005)\n"
+            "case-0005 : ◌≡◌ {{A = ℕ × List ℕ}} (related (access_by_groups table-0005)) ({number}, rows-0005)\n"
         );
         assert!(text.contains(&statement), "{text}");
         let (_, rows) = text.split_once("rows-0005 = ").expect("rows");
@@ -473,7 +473,7 @@ fn potential_access_by_groups_is_stated_whole() {
 fn a_bound_by_groups_is_stated_alone() {
     let text = declarations(&Case::new(Question::BoundByGroups(example_1())), 5, "A.b");
     assert!(text.starts_with("-- case 5: bound by groups, done\n"));
-    let statement = "case-0005 : _≡_ {A = ℕ} (boundByGroups table-0005 32 list-0005) 7\n";
+    let statement = "case-0005 : ◌≡◌ {A = ℕ} (bound_by_groups table-0005 32 list-0005) 7\n";
     assert!(text.contains(statement), "{text}");
 }
 
@@ -495,7 +495,7 @@ fn writing_is_stated_with_its_version() {
         let text = declarations(&case, 5, "A.b");
         let from = format!("{name} table-0005 buffer-0005");
         let statement = format!(
-            "case-0005 : _≡_ {{A = ℕ × List ℕ}} (writeNumber (writeRefusal {from}), writtenOf {from}) \
+            "case-0005 : ◌≡◌ {{A = ℕ × List ℕ}} (write_number (write_refusal {from}), written_of {from}) \
              ({number}, after-0005)\n"
         );
         assert!(text.contains(&statement), "{text}");
@@ -511,8 +511,9 @@ fn decisions_are_stated_with_their_bound() {
         input[2] = version;
         let input = input.clone();
         let text = declarations(&Case::new(Question::Decision { input }), 5, "A.b");
-        let statement =
-            format!("case-0005 : _≡_ {{A = ℕ × ℕ}} (decided (decisionOf input-0005)) ({answer})\n");
+        let statement = format!(
+            "case-0005 : ◌≡◌ {{A = ℕ × ℕ}} (decided (decision_of input-0005)) ({answer})\n"
+        );
         assert!(text.contains(&statement), "{text}");
     }
 }
@@ -533,7 +534,7 @@ fn an_import_is_stated_with_the_table_that_it_becomes() {
     assert!(text.contains(declared), "{text}");
     assert!(text.contains(&format!("after-0005 = {}\n", terms::table(&after))));
     let statement =
-        "case-0005 : _≡_ {A = ℕ × Table} (imported (importOf bytes-0005)) (0, after-0005)\n";
+        "case-0005 : ◌≡◌ {A = ℕ × Table} (imported (import_of bytes-0005)) (0, after-0005)\n";
     assert!(text.contains(statement), "{text}");
 }
 
@@ -547,7 +548,7 @@ fn a_refused_import_is_stated_with_the_unborn_table() {
         let text = declarations(&Case::new(Question::Import { bytes }), 5, "A.b");
         let unborn = terms::table(&Table::unborn());
         assert!(text.contains(&format!("after-0005 = {unborn}\n")));
-        let stated = format!("(imported (importOf bytes-0005)) ({number}, after-0005)\n");
+        let stated = format!("(imported (import_of bytes-0005)) ({number}, after-0005)\n");
         assert!(text.contains(&stated), "{text}");
     }
 }
@@ -567,21 +568,21 @@ fn clean_case(parts: &[Part]) -> Case {
 #[test]
 fn clean_objects_are_stated_in_five_parts_or_one() {
     let text = declarations(&clean_case(&Part::ALL), 3, "A.b");
-    let at_start = "cleanAtStart table-0003 32 list-0003";
+    let at_start = "clean_at_start table-0003 32 list-0003";
     let from = format!("table-0003 ({at_start}) requests-0003");
-    let compared = format!("comparedAtStart table-0003 ({at_start})");
-    let compared = format!("comparedAtEnd table-0003 ({at_start}) ({compared}) requests-0003");
+    let compared = format!("compared_at_start table-0003 ({at_start})");
+    let compared = format!("compared_at_end table-0003 ({at_start}) ({compared}) requests-0003");
     let statement = format!(
-        "case-0003 : _≡_ {{A = ℕ × ℕ × ℕ × List Ask × List ℕ}} (bits 64 ({at_start}), \
-         bits 64 (cleanAtEnd {from}), bits 64 (inBoth (cleanAtEnd {from}) ({compared})), \
-         cleanRequests {from}, map number (cleanReplies {from})) \
+        "case-0003 : ◌≡◌ {{A = ℕ × ℕ × ℕ × List Ask × List ℕ}} (bits 64 ({at_start}), \
+         bits 64 (clean_at_end {from}), bits 64 (in_both (clean_at_end {from}) ({compared})), \
+         clean_requests {from}, map number (clean_replies {from})) \
          (88, 88, 88, asked-0003, 6 ∷ [])\n"
     );
     assert!(text.contains(&statement), "{text}");
     assert!(text.contains("asked-0003 = read 4 0 ∷ []\n"));
     let text = declarations(&clean_case(&[Part::Replies]), 3, "A.b");
     let statement =
-        format!("case-0003 : _≡_ {{A = List ℕ}} (map number (cleanReplies {from})) (6 ∷ [])\n");
+        format!("case-0003 : ◌≡◌ {{A = List ℕ}} (map number (clean_replies {from})) (6 ∷ [])\n");
     assert!(text.contains(&statement), "{text}");
 }
 
@@ -1024,8 +1025,8 @@ fn clean_after_one_is_stated_for_any_set() {
         request: Request::Reclaim { actor: 4, t: 0 },
     });
     let text = declarations(&case, 2, "A.b");
-    let statement = "case-0002 : _≡_ {A = ℕ} \
-        (bits 64 (cleanAfter table-0002 (among 24) (reclaim 4 0))) 24\n";
+    let statement = "case-0002 : ◌≡◌ {A = ℕ} \
+        (bits 64 (clean_after table-0002 (among 24) (reclaim 4 0))) 24\n";
     assert!(text.contains(statement), "{text}");
 }
 
@@ -1228,7 +1229,10 @@ fn crates_bring_all_that_they_stand_on() {
 /// A small repository, of which `mask` is proved.
 fn write_repository(root: &Path) {
     for (file, text) in [
-        ("crates.txt", "mask:\nsteps: mask"),
+        (
+            "crates.txt",
+            "# lowest first\nmask:\nsteps: mask\napart: mask",
+        ),
         ("crates/mask/src/lib.rt", "// code\n"),
         ("crates/mask/specs/Lib.antt", "pub mod Sets\n"),
         ("crates/mask/specs/Sets.antt", "unfoldable pub bits : ℕ\n"),
@@ -1240,12 +1244,11 @@ fn write_repository(root: &Path) {
         ("crates/steps/src/lib.rt", "// code\n"),
         (
             "crates/steps/specs/Steps.antt",
-            "unfoldable pub stepOf : ℕ\n",
+            "unfoldable pub step_of : ℕ\n",
         ),
-        ("target/log/mask.out", "old\n"),
-        ("target/stamp/mask", "sum\n"),
-        ("target/rlib/mask.rlib/format", "library\n"),
-        ("target/rlib/steps.rlib/format", "library without a stamp\n"),
+        ("crates/mask/out/rlib/mask.rlib/format", "library\n"),
+        ("crates/apart/src/lib.rt", "// code\n"),
+        ("target/staticlib/libcaptable.a", "archive\n"),
     ] {
         let file = root.join(file);
         fs::create_dir_all(file.parent().expect("folder")).expect("folder");
@@ -1264,26 +1267,25 @@ fn cases_are_added_to_a_copy_only() {
     let unfolding = unfoldable(&scratch.folder, &below).expect("names");
     assert_eq!(
         unfolding,
-        "Rattle·steps.specs.Steps.stepOf Rattle·mask.specs.Sets.Low.low \
-         Rattle·mask.specs.Sets.bits"
+        "Rattle.steps.specs.Steps.step_of Rattle.mask.specs.Sets.Low.low \
+         Rattle.mask.specs.Sets.bits"
     );
     let cases: BTreeMap<usize, Case> = (0..).zip(cases_of(1, 0, 1)).collect();
+    scratch.keep_only(&below).expect("crates");
     for added in case_crates("cases", 2, &cases, &unfolding) {
         scratch.add_crate(&added, &below).expect("crate");
     }
-    scratch.take_proved(&root, &below).expect("libraries");
 
     let read = |file: &str| fs::read_to_string(scratch.folder.join(file)).expect(file);
-    let added = "steps: mask\ncases_00: steps mask\n\ncases_01: steps mask\n";
-    assert!(read("crates.txt").ends_with(added));
+    let added = "mask:\nsteps: mask\ncases_00: steps mask\ncases_01: steps mask\n";
+    assert_eq!(read("crates.txt"), added);
     assert_eq!(read("crates/cases_00/proofs/Lib.antt"), "pub mod Cases\n");
     assert!(read("crates/cases_01/proofs/Cases.antt").contains(&unfolding));
-    assert_eq!(read("target/stamp/mask"), "sum\n");
-    assert_eq!(read("target/rlib/mask.rlib/format"), "library\n");
     for absent in [
         "crates/mask/must-fail",
-        "target/log",
-        "target/rlib/steps.rlib",
+        "crates/mask/out",
+        "crates/apart",
+        "target",
     ] {
         assert!(!scratch.folder.join(absent).exists(), "{absent}");
     }
@@ -1321,18 +1323,24 @@ fn case_crate(name: &str, cases: &[usize]) -> CaseCrate {
 
 #[test]
 fn refusals_are_told_from_missing_verdicts() {
-    let said = "rt: mask proved (2 s)\n\
-        /tmp/x/crates/cases_a/proofs/Cases.antt:9:13: error: `case-0001`: expected type `f 1 ≡ 2`\n  \
-        but this has type `2 ≡ 2`\n\
-        /tmp/x/crates/cases_a/proofs/Cases.antt:9:1: note: something else\n\
-        /tmp/x/crates/cases_a/proofs/Cases.antt:9:1: error: `case-0002`: in its elaboration: stopped at the step limit\n  \
+    let said = "== mask\nlogic=proved\n\
+        == cases_a\n\
+        ./proofs/Cases.antt:9:13: error: `case-0001`: expected type `f 1 ≡ 2`\n  \
+        but this has type `2 ≡ 2`\n  \
+        what the two types compute to is not shown (computing it took more than 200000 steps)\n\
+        ./proofs/Cases.antt:9:1: note: something else\n\
+        ./proofs/Cases.antt:9:1: error: `case-0002`: in its elaboration: stopped at the step limit\n  \
         expected type `f 1 ≡ 2`, but this has type `2 ≡ 2`\n\
-        /tmp/x/crates/cases_a/proofs/Cases.antt:9:1: error: `case-0004`: `table-0004` was not admitted\n\
-        rt: cases_a NOT PROVED (exit 1, 6 s)\n\
-        rt: cases_b proved (3 s)\n\
-        rt: cases_c NOT PROVED: its dependency table is not proved\n\
-        /tmp/x/crates/cases_d/proofs/Cases.antt:1:1: error: a word is missing\n\
-        rt: cases_d NOT PROVED (exit 1, 6 s)\n";
+        ./proofs/Cases.antt:9:1: error: `case-0004`: `table-0004` was not admitted\n\
+        == cases_b\n\
+        == cases_d\n\
+        ./proofs/Cases.antt:1:1: error: a word is missing\n\
+        == summary\n\
+        mask: ok\n\
+        cases_a: failed (1)\n\
+        cases_b: ok\n\
+        cases_c: not run, since table failed\n\
+        cases_d: failed (1)\n";
     let found = verdicts(
         said,
         &[
@@ -1352,7 +1360,7 @@ fn refusals_are_told_from_missing_verdicts() {
         found.keys().copied().collect::<Vec<_>>(),
         [1, 2, 4, 6, 7, 8]
     );
-    let dependency = "rt: cases_c NOT PROVED: its dependency table is not proved";
+    let dependency = "cases_c: not run, since table failed";
     assert_eq!(found[&6], Verdict::Undecided(dependency.into()));
 }
 
@@ -1360,23 +1368,25 @@ fn refusals_are_told_from_missing_verdicts() {
 #[test]
 fn silence_is_no_acceptance() {
     let crates = [case_crate("cases_a", &[0, 1])];
-    let refused = "/tmp/x/crates/cases_a/proofs/Cases.antt:9:13: error: `case-0001`: \
+    let refused = "== cases_a\n./proofs/Cases.antt:9:13: error: `case-0001`: \
                    expected type `f 1 ≡ 2`, but this has type `2 ≡ 2`\n";
-    let whole = "/tmp/x/crates/cases_a/proofs/Lib.antt:1:1: error: no such file\n";
+    let whole = "== cases_a\n./proofs/Lib.antt:1:1: error: no such file\n";
+    let summary = "== summary\ncases_a: failed";
     for said in [
         "",
         "rt: crates.txt: line 3: bad\n",
-        "rt: cases_ab proved (1 s)\n",
-        "rt: cases_a NOT PROVED (exit 1, 6 s)\n",
-        &format!("{whole}rt: cases_a NOT PROVED (exit 1, 6 s)\n"),
-        &format!("{refused}rt: cases_a NOT PROVED (exit 139, 6 s)\n"),
+        "== summary\ncases_ab: ok\n",
+        "cases_a: ok\n",
+        &format!("{summary} (1)\n"),
+        &format!("{whole}{summary} (1)\n"),
+        &format!("{refused}{summary} (139)\n"),
         refused,
     ] {
         assert_eq!(verdicts(said, &crates).len(), 2, "{said}");
     }
-    let through = format!("{refused}rt: cases_a NOT PROVED (exit 1, 6 s)\n");
+    let through = format!("{refused}{summary} (1)\n");
     assert_eq!(verdicts(&through, &crates).len(), 1);
-    assert!(verdicts("rt: cases_a proved (unchanged)\n", &crates).is_empty());
+    assert!(verdicts("== summary\ncases_a: ok\n", &crates).is_empty());
 }
 
 #[test]
@@ -1405,7 +1415,7 @@ fn the_summary_names_what_was_not_accepted() {
     ]);
     let text = summary::not_accepted(&cases, &crates, &found, Path::new("/x"));
     let expected = "REFUSED case 2: 1 read, answer 4\n  /x/crates/cases_01/proofs/Cases.antt\n  \
-                    expected\nNOT CHECKED case 3\n  too long\n  all that was said: /x/target/log\n\
+                    expected\nNOT CHECKED case 3\n  too long\n  all that was said: /x/said\n\
                     4 cases: 2 accepted, 1 refused, 1 not checked\n";
     assert_eq!(text, expected);
     let text = summary::not_refused(&cases, &crates, &found, Path::new("/x"));

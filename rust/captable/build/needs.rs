@@ -68,7 +68,7 @@ pub fn with_archive(folder: PathBuf) -> Result<PathBuf, String> {
         return Ok(folder);
     }
     Err(format!(
-        "there is no {ARCHIVE} in {}: run `rt staticlib captable` in the repository's folder, or set {VARIABLE} to \
+        "there is no {ARCHIVE} in {}: run `tools/build` in the repository's folder, or set {VARIABLE} to \
          the folder that has it",
         folder.display()
     ))

@@ -1,6 +1,6 @@
 //! The capability table of a sealed controller, proved against its written model, for Rust.
 //!
-//! The calls are those of `libcaptable.a`, which `rt staticlib captable` proves and writes. This crate
+//! The calls are those of `libcaptable.a`, which `tools/build` proves and writes. This crate
 //! gives them types: a [`Table`] of 64 objects with eight slots each, a [`Request`] of nine kinds,
 //! potential access as a [`Relation`], the confinement test with its [`Finding`], the [`Chain`] to an object of its
 //! bound, images, and [imports](Table::import) of take-and-grant tables. A refusal is a value with the number of

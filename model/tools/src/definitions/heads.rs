@@ -16,50 +16,50 @@ pub const CRATES: [&str; 9] = [
 
 pub const HEAD: &str = "\
 -- Answers of the model, which the definitions have to give too.
-use mathlib.Core.Path.{_≡_, refl}
-use mathlib.Core.Bool.{Bool, true, false, _&&_}
-use mathlib.Core.List.{List, [], _∷_, map}
+use mathlib.Core.Path.{◌≡◌, refl}
+use mathlib.Core.Bool.{Bool, true, false, ◌&&◌}
+use mathlib.Core.List.{List, [], ◌∷◌, map}
 use Prim.Native.Nat.{ℕ}
-use Rattle·mask.specs.Sets.{bits, has}
-use Rattle·table.specs.declared.Capability.{Capability}
-use Rattle·table.specs.declared.Record.{Record}
-use Rattle·table.specs.declared.Table.{Table}
-use Rattle·table.specs.Cells.{recordAt, putRecord}
-use Rattle·table.specs.Soundness.{sound}
-use Rattle·rights.specs.declared.Need.the-variants.{ReadOrWeak, Write, Send}
-use Rattle·rights.specs.declared.Worth.{Worth}
-use Rattle·rights.specs.Rows.{worthOf, needMet, weaken}
-use Rattle·requests.specs.declared.Pair.{Pair}
-use Rattle·requests.specs.Asks.{Ask, read, write, fetch, store, revoke, send, allocate, destroy, reclaim, unknown}
-use Rattle·refusals.specs.Replies.{number}
-use Rattle·copies.specs.Copies.{landed}
-use Rattle·steps.specs.declared.Stepped.{Stepped}
-use Rattle·steps.specs.Steps.{stepOf, runTable, runReplies}
-use Rattle·access.specs.declared.Access.{Access}
-use Rattle·relation.specs.Relation.{rd, wr, wk, tx, tableHolding}
-use Rattle·access.specs.Answers.{accessOf, accessNumber}
-use Rattle·groups.specs.Groups.{groupOf, rowByGroups}
-use Rattle·groups.specs.Answers.{accessByGroups}
-use Rattle·group_tests.specs.Bounds.{boundByGroups}
-use Rattle·confinement.specs.declared.Tested.{Tested}
-use Rattle·confinement.specs.Refusals.{passes, verdictNumber}
-use Rattle·confinement.specs.Rounds.{objectsAfter}
-use Rattle·confinement.specs.Tests.{testOf}
-use Rattle·links.specs.Links.{wordEdge}
-use Rattle·walks.specs.Chains.{leastChain}
-use Rattle·chains.specs.declared.Shown.{Shown}
-use Rattle·chains.specs.Answers.{chainNumber, chainOf}
-use Rattle·image.specs.declared.Version.the-variants.{One, Two}
-use Rattle·image.specs.declared.Loaded.{Loaded}
-use Rattle·image.specs.Images.{readNumber, readOf}
-use Rattle·image_out.specs.Written.{writeNumber, writeRefusal, writtenOf}
-use Rattle·take_grant.specs.declared.Imported.{Imported}
-use Rattle·take_grant.specs.Imports.{importNumber, importOf}
-use Rattle·wire.specs.Wires.{askFrom}
-use Rattle·entries.specs.Entries.{entriesIn}
-use Rattle·lines.specs.declared.Decision.{Decision}
-use Rattle·report.specs.Decisions.{decisionOf}
-use Rattle·isolation.specs.Clean.{cleanAtStart, cleanAfter, cleanAtEnd, cleanRequests, cleanReplies, comparedAtStart, comparedAtEnd}
+use Rattle.mask.specs.Sets.{bits, has}
+use Rattle.table.specs.declared.Capability.{Capability}
+use Rattle.table.specs.declared.Record.{Record}
+use Rattle.table.specs.declared.Table.{Table}
+use Rattle.table.specs.Cells.{record_at, put_record}
+use Rattle.table.specs.Soundness.{sound}
+use Rattle.rights.specs.declared.Need.TheVariants.{ReadOrWeak, Write, Send}
+use Rattle.rights.specs.declared.Worth.{Worth}
+use Rattle.rights.specs.Rows.{worth_of, need_met, weaken}
+use Rattle.requests.specs.declared.Pair.{Pair}
+use Rattle.requests.specs.Asks.{Ask, read, write, fetch, store, revoke, send, allocate, destroy, reclaim, unknown}
+use Rattle.refusals.specs.Replies.{number}
+use Rattle.copies.specs.Copies.{landed}
+use Rattle.steps.specs.declared.Stepped.{Stepped}
+use Rattle.steps.specs.Steps.{step_of, run_table, run_replies}
+use Rattle.access.specs.declared.Access.{Access}
+use Rattle.relation.specs.Relation.{rd, wr, wk, tx, table_holding}
+use Rattle.access.specs.Answers.{access_of, access_number}
+use Rattle.groups.specs.Groups.{group_of, row_by_groups}
+use Rattle.groups.specs.Answers.{access_by_groups}
+use Rattle.group_tests.specs.Bounds.{bound_by_groups}
+use Rattle.confinement.specs.declared.Tested.{Tested}
+use Rattle.confinement.specs.Refusals.{passes, verdict_number}
+use Rattle.confinement.specs.Rounds.{objects_after}
+use Rattle.confinement.specs.Tests.{test_of}
+use Rattle.links.specs.Links.{word_edge}
+use Rattle.walks.specs.Chains.{least_chain}
+use Rattle.chains.specs.declared.Shown.{Shown}
+use Rattle.chains.specs.Answers.{chain_number, chain_of}
+use Rattle.image.specs.declared.Version.TheVariants.{One, Two}
+use Rattle.image.specs.declared.Loaded.{Loaded}
+use Rattle.image.specs.Images.{read_number, read_of}
+use Rattle.image_out.specs.Written.{write_number, write_refusal, written_of}
+use Rattle.take_grant.specs.declared.Imported.{Imported}
+use Rattle.take_grant.specs.Imports.{import_number, import_of}
+use Rattle.wire.specs.Wires.{ask_from}
+use Rattle.entries.specs.Entries.{entries_in}
+use Rattle.lines.specs.declared.Decision.{Decision}
+use Rattle.report.specs.Decisions.{decision_of}
+use Rattle.isolation.specs.Clean.{clean_at_start, clean_after, clean_at_end, clean_requests, clean_replies, compared_at_start, compared_at_end}
 
 abbrev object : ℕ → ℕ → ℕ → ℕ → ℕ → Record
 object status kind word stock maker = record { status = status; kind = kind; maker = maker; word = word; stock = stock }
@@ -76,36 +76,36 @@ free = slot 0 0
 abbrev pair : ℕ → ℕ → Pair
 pair from to = record { from = from; to = to }
 
-abbrev withMaker : Record → ℕ → Record
-withMaker r maker = object (r .status) (r .kind) (r .word) (r .stock) maker
+abbrev with_maker : Record → ℕ → Record
+with_maker r maker = object r.status r.kind r.word r.stock maker
 
 abbrev among : ℕ → ℕ → Bool
 among set n = has n set
 
-abbrev inBoth : (ℕ → Bool) → (ℕ → Bool) → ℕ → Bool
-inBoth one other n = one n && other n
+abbrev in_both : (ℕ → Bool) → (ℕ → Bool) → ℕ → Bool
+in_both one other n = one n && other n
 
-abbrev soundIf : Table → ℕ → ℕ → Bool
-soundIf t n maker = sound (putRecord t n (withMaker (recordAt t n) maker))
+abbrev sound_if : Table → ℕ → ℕ → Bool
+sound_if t n maker = sound (put_record t n (with_maker (record_at t n) maker))
 
 abbrev stepped : Stepped → ℕ × Table
-stepped s = (number (s .reply), s .table)
+stepped s = (number s.reply, s.table)
 
 abbrev tested : Tested → ℕ × ℕ × ℕ
-tested t = (verdictNumber (t .verdict), t .bound, t .rounds)
+tested t = (verdict_number t.verdict, t.bound, t.rounds)
 
 abbrev shown : Shown → ℕ × ℕ × List ℕ
-shown s = (chainNumber (s .reply), s .count, s .numbers)
+shown s = (chain_number s.reply, s.count, s.numbers)
 
 abbrev related : Access → ℕ × List ℕ
-related a = (accessNumber (a .reply), a .rows)
+related a = (access_number a.reply, a.rows)
 
 abbrev loaded : Loaded → ℕ × Table
-loaded l = (readNumber (l .reply), l .table)
+loaded l = (read_number l.reply, l.table)
 
 abbrev decided : Decision → ℕ × ℕ
-decided d = (d .number, d .bound)
+decided d = (d.number, d.bound)
 
 abbrev imported : Imported → ℕ × Table
-imported i = (importNumber (i .reply), i .table)
+imported i = (import_number i.reply, i.table)
 ";

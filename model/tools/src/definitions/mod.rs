@@ -75,10 +75,10 @@ fn compare(options: &Options, scratch: &Scratch) -> io::Result<Outcome> {
     let unfolding = specs::unfoldable(&scratch.folder, &below)?;
     let mut crates = case_crates("cases", MODULES, &right, &unfolding);
     crates.extend(case_crates("wrong", WRONG_MODULES, &wrong, &unfolding));
+    scratch.keep_only(&below)?;
     for added in &crates {
         scratch.add_crate(added, &below)?;
     }
-    scratch.take_proved(&options.root, &below)?;
     let place = scratch.folder.display();
     eprintln!(
         "definitions: {} cases in {} modules, in {place}",

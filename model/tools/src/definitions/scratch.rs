@@ -2,19 +2,22 @@
 //! Nothing is ever written into the repository itself.
 
 use super::crates::CaseCrate;
+use super::verdicts::heading;
 use crate::progress::Progress;
 use std::fmt::Display;
 use std::fs::{self, File};
 use std::io;
 use std::path::{Path, PathBuf};
 use std::process::{self, Command};
-use std::thread::sleep;
+use std::thread::{self, sleep};
 use std::time::{Duration, SystemTime, UNIX_EPOCH};
 
 /// Folders that are not copied: edits that must fail, and what the toolchain makes.
-const LEFT_OUT: [&str; 2] = ["must-fail", "target"];
+const LEFT_OUT: [&str; 3] = ["must-fail", "out", "target"];
 /// How long to wait before the toolchain is looked at again.
 const PAUSE: Duration = Duration::from_millis(200);
+/// How many crates are checked at a time at most: each may take some gigabytes.
+const MOST_JOBS: usize = 4;
 
 pub struct Scratch {
     pub folder: PathBuf,
@@ -41,17 +44,17 @@ impl Scratch {
         Ok(Scratch { folder })
     }
 
-    /// Takes over what the toolchain made of crates that are proved in the repository. It proves again
-    /// what has changed since, and what is missing.
-    pub fn take_proved(&self, root: &Path, names: &[String]) -> io::Result<()> {
-        let (from, to) = (root.join("target"), self.folder.join("target"));
-        fs::create_dir_all(to.join("stamp"))?;
-        for name in names {
-            let stamp = Path::new("stamp").join(name);
-            let library = format!("rlib/{name}.rlib");
-            if from.join(&stamp).is_file() && from.join(&library).is_dir() {
-                copy_folder(&from.join(&library), &to.join(&library))?;
-                fs::copy(from.join(&stamp), to.join(&stamp))?;
+    /// Leaves these crates alone in the copy, so that the toolchain checks no other. It begins with what it has kept of them on
+    /// this machine, and proves again what has changed since, and what is missing.
+    pub fn keep_only(&self, names: &[String]) -> io::Result<()> {
+        let list = self.crate_list()?;
+        let kept = list.lines().filter(|line| is_line_of(line, names));
+        let kept: String = kept.map(|line| format!("{line}\n")).collect();
+        fs::write(self.folder.join("crates.txt"), kept)?;
+        for entry in fs::read_dir(self.folder.join("crates"))? {
+            let entry = entry?;
+            if !names.iter().any(|name| entry.file_name() == name.as_str()) {
+                fs::remove_dir_all(entry.path())?;
             }
         }
         Ok(())
@@ -67,11 +70,14 @@ impl Scratch {
         let folder = self.folder.join("crates").join(&added.name);
         fs::create_dir_all(folder.join("src"))?;
         fs::create_dir_all(folder.join("proofs"))?;
-        fs::write(folder.join("src/lib.rt"), "// Cases, and no code.\n")?;
+        fs::write(
+            folder.join("src/lib.rt"),
+            "// Cases, and no code.\n#![tactic(auto)]\n",
+        )?;
         fs::write(folder.join("proofs/Lib.antt"), "pub mod Cases\n")?;
         fs::write(self.folder.join(added.file()), &added.text)?;
         let mut list = self.crate_list()?;
-        list += &format!("\n{}: {}\n", added.name, below.join(" "));
+        list += &format!("{}: {}\n", added.name, below.join(" "));
         fs::write(self.folder.join("crates.txt"), list)
     }
 
@@ -79,11 +85,10 @@ impl Scratch {
     /// that the toolchain said.
     pub fn check(&self, crates: &[CaseCrate], below: &[String]) -> io::Result<String> {
         let (said, errors) = (self.folder.join("said"), self.folder.join("errors"));
+        let jobs = thread::available_parallelism().map_or(1, |cores| cores.get().min(MOST_JOBS));
         let mut child = Command::new("rt")
-            .arg("check")
-            .args(crates.iter().map(|one| &one.name))
+            .args(["all", "check", "--jobs", &jobs.to_string()])
             .current_dir(&self.folder)
-            .env("RT_CUT", "0")
             .stdout(File::create(&said)?)
             .stderr(File::create(&errors)?)
             .spawn()
@@ -102,19 +107,25 @@ impl Scratch {
         Ok(read_lossy(&said)? + &read_lossy(&errors)?)
     }
 
-    /// How many of the crates the toolchain is done with.
+    /// How many of the crates the toolchain is done with: it then says all of a crate at once.
     fn ended<'a>(&self, names: impl Iterator<Item = &'a String>) -> u64 {
-        let has_ended = |name: &&String| {
-            let log = self.folder.join(format!("target/log/{name}.out"));
-            let line = format!("rt: {name} ");
-            fs::read_to_string(log).is_ok_and(|text| text.lines().any(|l| l.starts_with(&line)))
-        };
-        names.filter(has_ended).count() as u64
+        let said = read_lossy(&self.folder.join("said")).unwrap_or_default();
+        let headings: Vec<&str> = said.lines().filter_map(heading).collect();
+        names
+            .filter(|name| headings.contains(&name.as_str()))
+            .count() as u64
     }
 
     pub fn remove(self) -> io::Result<()> {
         fs::remove_dir_all(self.folder)
     }
+}
+
+/// Whether a line of crates.txt is that of one of these crates.
+fn is_line_of(line: &str, names: &[String]) -> bool {
+    let line = line.split('#').next().unwrap_or("");
+    let listed = line.split_once(':').map(|(listed, _)| listed.trim());
+    names.iter().any(|name| listed == Some(name.as_str()))
 }
 
 fn read_lossy(file: &Path) -> io::Result<String> {

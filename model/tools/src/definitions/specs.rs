@@ -26,7 +26,7 @@ fn unfoldable_name(line: &str) -> Option<String> {
 pub fn unfoldable_paths(root: &Path, name: &str) -> io::Result<Vec<String>> {
     let mut paths = Vec::new();
     let folder = root.join("crates").join(name).join("specs");
-    collect_paths(&folder, &format!("Rattle·{name}.specs"), &mut paths)?;
+    collect_paths(&folder, &format!("Rattle.{name}.specs"), &mut paths)?;
     Ok(paths)
 }
 

@@ -58,13 +58,13 @@ fn worth([weakened, reads, writes, sends]: &Cells) -> String {
 /// The definition that gives the group, or over whom one has a right.
 fn group_row(row: GroupRow, table: &str) -> String {
     let right = match row {
-        GroupRow::Group => return format!("groupOf (tableHolding {table})"),
+        GroupRow::Group => return format!("group_of (table_holding {table})"),
         GroupRow::Over(RD) => "rd",
         GroupRow::Over(WR) => "wr",
         GroupRow::Over(WK) => "wk",
         GroupRow::Over(_) => "tx",
     };
-    format!("rowByGroups (tableHolding {table}) {right}")
+    format!("row_by_groups (table_holding {table}) {right}")
 }
 
 /// The number of the stand-in among 64: that of the lowest member.
@@ -97,11 +97,11 @@ impl Writer<'_> {
             } => {
                 let table = self.table("table", table);
                 let ask = terms::ask(request);
-                format!("bits 64 (cleanAfter {table} (among {clean}) ({ask}))")
+                format!("bits 64 (clean_after {table} (among {clean}) ({ask}))")
             }
             Question::Step { table, request } => {
                 let table = self.table("table", table);
-                format!("stepped (stepOf {table} ({}))", terms::ask(request))
+                format!("stepped (step_of {table} ({}))", terms::ask(request))
             }
             Question::Landing { held, copies } => {
                 let held = self.value("held", "Capability", &terms::capability(*held));
@@ -109,10 +109,10 @@ impl Writer<'_> {
                 let copies = self.value("copies", "List Capability", &copies);
                 format!("map (landed {held}) {copies}")
             }
-            Question::Worth { values } => format!("map worthOf {}", self.bytes("values", values)),
+            Question::Worth { values } => format!("map worth_of {}", self.bytes("values", values)),
             Question::Needs { values } => {
                 let values = self.bytes("values", values);
-                let maps = NEEDS.map(|(need, _)| format!("map (needMet {need}) {values}"));
+                let maps = NEEDS.map(|(need, _)| format!("map (need_met {need}) {values}"));
                 maps.join(", ")
             }
             Question::Weakening { held } => {
@@ -123,13 +123,13 @@ impl Writer<'_> {
             Question::Run { table, requests } => {
                 let table = self.table("table", table);
                 let asks = self.asks("requests", requests);
-                format!("map number (runReplies {table} {asks}), runTable {table} {asks}")
+                format!("map number (run_replies {table} {asks}), run_table {table} {asks}")
             }
-            Question::Test(case) => format!("tested (testOf {})", self.test(case)),
+            Question::Test(case) => format!("tested (test_of {})", self.test(case)),
             Question::There { test, after } => {
                 let test = self.test(test);
                 let after = terms::numbers(after.iter().map(|&k| k as u64));
-                format!("map (objectsAfter {test}) ({after})")
+                format!("map (objects_after {test}) ({after})")
             }
             Question::Passing { list, held } => {
                 let list = self.list(list);
@@ -138,18 +138,21 @@ impl Writer<'_> {
                 format!("map (passes {list}) {held}")
             }
             Question::Chain(ShownCase { test, object }) => {
-                format!("shown (chainOf {} {object})", self.test(test))
+                format!("shown (chain_of {} {object})", self.test(test))
             }
             Question::LeastChain(ShownCase { test, object }) => {
                 let words = terms::numbers(link_words(test));
                 let words = self.value("words", "List ℕ", &words);
-                format!("leastChain (wordEdge {words}) {} {object}", stand_in(test))
+                format!(
+                    "least_chain (word_edge {words}) {} {object}",
+                    stand_in(test)
+                )
             }
             Question::Access { table } => {
-                format!("related (accessOf {})", self.table("table", table))
+                format!("related (access_of {})", self.table("table", table))
             }
             Question::AccessByGroups { table } => {
-                format!("related (accessByGroups {})", self.table("table", table))
+                format!("related (access_by_groups {})", self.table("table", table))
             }
             Question::ByGroups {
                 table,
@@ -160,13 +163,13 @@ impl Writer<'_> {
                 let numbers = self.bytes("of", numbers);
                 format!("map ({}) {numbers}", group_row(*row, &table))
             }
-            Question::BoundByGroups(case) => format!("boundByGroups {}", self.test(case)),
+            Question::BoundByGroups(case) => format!("bound_by_groups {}", self.test(case)),
             Question::Sound { table, n, makers } => {
                 let table = self.table("table", table);
                 let makers = self.bytes("makers", makers);
-                format!("map (soundIf {table} {n}) {makers}")
+                format!("map (sound_if {table} {n}) {makers}")
             }
-            Question::Read { image } => format!("loaded (readOf {})", self.bytes("image", image)),
+            Question::Read { image } => format!("loaded (read_of {})", self.bytes("image", image)),
             Question::Write {
                 version,
                 table,
@@ -175,16 +178,16 @@ impl Writer<'_> {
                 let table = self.table("table", table);
                 let buffer = self.bytes("buffer", buffer);
                 let from = format!("{} {table} {buffer}", terms::version(*version));
-                format!("writeNumber (writeRefusal {from}), writtenOf {from}")
+                format!("write_number (write_refusal {from}), written_of {from}")
             }
             Question::Decision { input } => {
-                format!("decided (decisionOf {})", self.bytes("input", input))
+                format!("decided (decision_of {})", self.bytes("input", input))
             }
             Question::Import { bytes } => {
-                format!("imported (importOf {})", self.bytes("bytes", bytes))
+                format!("imported (import_of {})", self.bytes("bytes", bytes))
             }
-            Question::RequestBytes { bytes } => format!("askFrom {}", self.bytes("bytes", bytes)),
-            Question::ListBytes { bytes } => format!("entriesIn {}", self.bytes("bytes", bytes)),
+            Question::RequestBytes { bytes } => format!("ask_from {}", self.bytes("bytes", bytes)),
+            Question::ListBytes { bytes } => format!("entries_in {}", self.bytes("bytes", bytes)),
         }
     }
 
@@ -197,19 +200,19 @@ impl Writer<'_> {
 
     /// The definitions of clean objects, as one term: the checker then computes what they share once.
     fn clean(&mut self, start: &ConfinementCase, requests: &[Request], parts: &[Part]) -> String {
-        let at_start = format!("cleanAtStart {}", self.test(start));
+        let at_start = format!("clean_at_start {}", self.test(start));
         let (table, asks) = (self.name("table"), self.asks("requests", requests));
         let from = format!("{table} ({at_start}) {asks}");
         let term = |part: &Part| match part {
             Part::AtStart => format!("bits 64 ({at_start})"),
-            Part::AtEnd => format!("bits 64 (cleanAtEnd {from})"),
+            Part::AtEnd => format!("bits 64 (clean_at_end {from})"),
             Part::Compared => {
-                let compared = format!("comparedAtStart {table} ({at_start})");
-                let compared = format!("comparedAtEnd {table} ({at_start}) ({compared}) {asks}");
-                format!("bits 64 (inBoth (cleanAtEnd {from}) ({compared}))")
+                let compared = format!("compared_at_start {table} ({at_start})");
+                let compared = format!("compared_at_end {table} ({at_start}) ({compared}) {asks}");
+                format!("bits 64 (in_both (clean_at_end {from}) ({compared}))")
             }
-            Part::Requests => format!("cleanRequests {from}"),
-            Part::Replies => format!("map number (cleanReplies {from})"),
+            Part::Requests => format!("clean_requests {from}"),
+            Part::Replies => format!("map number (clean_replies {from})"),
         };
         parts.iter().map(term).collect::<Vec<_>>().join(", ")
     }
@@ -350,7 +353,7 @@ impl Writer<'_> {
     fn computes(&mut self, kind: &str, term: &str, expected: &str) {
         let name = self.name("case");
         let (own, unfolding) = (self.own.join(" "), self.unfolding);
-        self.text += &format!("{name} : _≡_ {{A = {kind}}} ({term}) {expected}\n");
+        self.text += &format!("{name} : ◌≡◌ {{A = {kind}}} ({term}) {expected}\n");
         self.text += &format!("unfolding {own} {unfolding}\n");
         self.text += &format!("{name} = refl {{0}} {{A = {kind}}} {{a = {expected}}}\n\n");
     }

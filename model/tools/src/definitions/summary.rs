@@ -130,7 +130,7 @@ fn undecided(verdicts: &BTreeMap<usize, Verdict>, folder: &Path) -> String {
         text += &format!("NOT CHECKED case {}{more}\n  {reason}\n", shown.join(", "));
     }
     if !reasons.is_empty() {
-        let logs = folder.join("target/log");
+        let logs = folder.join("said");
         text += &format!("  all that was said: {}\n", logs.display());
     }
     text

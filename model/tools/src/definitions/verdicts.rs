@@ -67,7 +67,7 @@ fn record(verdicts: &mut BTreeMap<usize, Verdict>, case: usize, complaint: &Comp
 }
 
 /// Whether the checker found that two things differ. All else, as a name that it does not know or
-/// too many steps, says nothing of the definitions.
+/// too many steps, says nothing of the definitions. That what differs is too long to be printed is no such stop.
 fn is_mismatch(message: &str) -> bool {
     message.contains("but this has type") && !message.contains("step limit")
 }
@@ -75,9 +75,11 @@ fn is_mismatch(message: &str) -> bool {
 /// The errors in what the toolchain said. Indented lines go on with the error above them.
 pub fn complaints(said: &str) -> Vec<Complaint> {
     let mut complaints: Vec<Complaint> = Vec::new();
-    let mut open = false;
+    let (mut open, mut crate_name) = (false, "");
     for line in said.lines() {
-        if let Some(complaint) = complaint(line) {
+        if let Some(name) = heading(line) {
+            (open, crate_name) = (false, name);
+        } else if let Some(complaint) = complaint(line, crate_name) {
             complaints.push(complaint);
             open = true;
         } else if let Some(last) = complaints.last_mut().filter(|_| line.starts_with("  ")) {
@@ -92,12 +94,15 @@ pub fn complaints(said: &str) -> Vec<Complaint> {
     complaints
 }
 
-/// An error line: `../crates/NAME/proofs/Cases.antt:LINE:COLUMN: error: `DECLARATION`: MESSAGE`.
-fn complaint(line: &str) -> Option<Complaint> {
+/// The name in a heading, `== NAME`: what the toolchain said of a crate follows it.
+pub fn heading(line: &str) -> Option<&str> {
+    line.strip_prefix("== ").map(str::trim)
+}
+
+/// An error line: `./proofs/Cases.antt:LINE:COLUMN: error: `DECLARATION`: MESSAGE`.
+fn complaint(line: &str, crate_name: &str) -> Option<Complaint> {
     let (place, message) = line.split_once(": error: ")?;
-    let (path, _) = place.split_once(".antt:")?;
-    let (_, path) = path.rsplit_once("/crates/")?;
-    let (crate_name, _) = path.split_once("/proofs/")?;
+    place.strip_prefix("./proofs/")?.split_once(".antt:")?;
     let case = message
         .strip_prefix('`')
         .and_then(|rest| rest.split_once('`'))
@@ -126,20 +131,20 @@ enum Outcome {
 
 fn outcome(said: &str, name: &str) -> Outcome {
     let line = line_on(said, name).unwrap_or("");
-    let is = |words: &str| line.starts_with(&format!("rt: {name} {words}"));
-    if is("proved") {
-        Outcome::Proved
-    } else if is("NOT PROVED (exit 1,") || is("NOT PROVED (exit 3,") {
-        Outcome::Through
-    } else {
-        Outcome::Broken
+    match line.split_once(": ").map_or("", |(_, words)| words) {
+        "ok" => Outcome::Proved,
+        "failed (1)" | "failed (3)" => Outcome::Through,
+        _ => Outcome::Broken,
     }
 }
 
-/// The toolchain's own line on a crate.
+/// The toolchain's own line on a crate, `NAME: ok` or why not, below the heading `summary`.
 fn line_on<'a>(said: &'a str, name: &str) -> Option<&'a str> {
-    let start = format!("rt: {name} ");
-    said.lines().find(|line| line.starts_with(&start))
+    let start = format!("{name}: ");
+    let summary = said
+        .lines()
+        .skip_while(|line| heading(line) != Some("summary"));
+    summary.filter(|line| line.starts_with(&start)).last()
 }
 
 /// Why there is no verdict on a crate: the line on it, or else the last thing said.
