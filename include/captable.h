@@ -28,7 +28,7 @@
  * 6. The processor is an x86-64 with SSE2 turned on, calls follow the System V convention (so no
  *    -mabi=ms), and memcpy and memset are what C says they are.
  *
- * The archive's code, for whoever writes the interrupt handlers: it uses the registers xmm0 to xmm8, in
+ * The archive's code, for whoever writes the interrupt handlers: it uses the registers xmm0 to xmm4, in
  * captable_chain xmm0 to xmm9, for moves, bits and whole numbers, with no floating-point arithmetic; a handler
  * that makes a call saves them first, with the other registers that a C function may change. It keeps nothing
  * below the stack pointer (no red zone), so handlers may run on the same stack without leaving 128 bytes free
@@ -102,22 +102,22 @@ extern "C" {
  *
  * A test measures every call and holds these numbers to it (model/peer/tests/stack.rs).
  */
-#define CAPTABLE_STACK_STEP 22904
-#define CAPTABLE_STACK_STEP_BY_VALUE 22888
+#define CAPTABLE_STACK_STEP 22856
+#define CAPTABLE_STACK_STEP_BY_VALUE 22840
 #define CAPTABLE_STACK_SOUND 4200
-#define CAPTABLE_STACK_ACCESS 10392
-#define CAPTABLE_STACK_ACCESS_BY_GROUPS 17576
-#define CAPTABLE_STACK_TEST 8952
+#define CAPTABLE_STACK_ACCESS 8328
+#define CAPTABLE_STACK_ACCESS_BY_GROUPS 10904
+#define CAPTABLE_STACK_TEST 8440
 #define CAPTABLE_STACK_TEST_BY_GROUPS 10040
-#define CAPTABLE_STACK_CHAIN 11032
-#define CAPTABLE_STACK_READ 17640
-#define CAPTABLE_STACK_IMPORT 5192
-#define CAPTABLE_STACK_WRITE 6296
-#define CAPTABLE_STACK_WRITE_OLDER 6280
-#define CAPTABLE_STACK_CONFINE 15672
+#define CAPTABLE_STACK_CHAIN 10728
+#define CAPTABLE_STACK_READ 11496
+#define CAPTABLE_STACK_IMPORT 6216
+#define CAPTABLE_STACK_WRITE 8360
+#define CAPTABLE_STACK_WRITE_OLDER 8360
+#define CAPTABLE_STACK_CONFINE 12600
 #define CAPTABLE_STACK_UNBORN 3112
 #define CAPTABLE_STACK_VERSION 8
-#define CAPTABLE_STACK_MOST 22904
+#define CAPTABLE_STACK_MOST 22856
 
 /* ---- values --------------------------------------------------------------------------------------- */
 

@@ -5,8 +5,8 @@ use mathlib.Core.Bool.{Bool, true, false, not, ◌&&◌}
 use mathlib.Core.List.{List}
 use Prim.Native.Nat.{ℕ, ◌/◌, ◌%◌, ◌^◌, ◌<◌}
 use lib.Dec.{ltb}
-use lib.ListN.{replicate}
 use borrow.Author.Tests.{ltb-true, lt-ltb, not-true}
+use Rattle.std.specs.Prelude.{Ok, Err}
 use Rattle.mask.specs.Sets.{has}
 use Rattle.mask.proofs.Tests.{and_true, and_intro}
 use Rattle.mask.proofs.Bits.{has_bits, bits_lt, has_zero}
@@ -15,7 +15,7 @@ use Rattle.table.specs.declared.Table.{Table}
 use Rattle.table.specs.Lists.{tabulate}
 use Rattle.table.specs.Cells.{born_at}
 use Rattle.table.specs.Soundness.{sound}
-use Rattle.access.specs.declared.AccessReply.TheVariants.{Done, TableUnsound}
+use Rattle.access.specs.declared.AccessRefusal.TheVariants.{TableUnsound}
 use Rattle.relation.specs.Relation.{holds, takes_part, table_holding, right_at}
 use Rattle.relation.specs.Closure.{row_of}
 use Rattle.access.specs.Answers.{born_outside, access_of}
@@ -71,14 +71,14 @@ module _ (t : Table) (s r : List ℕ) (start : Begun t.slots (born_outside t.rec
 
 -- the two ways out of the call --------------------------------------------------------------
 pub access_done : (t : Table) (b : Bool) (n : ℕ) (s r : List ℕ) → b ≡ sound t → b ≡ true → n ≡ born_outside t.records 0
-    → s ≡ slot_marks t.slots n (own_marks n 64) 512 → Saturated s r → record { reply = Done; rows = r } ≡ access_of t
+    → s ≡ slot_marks t.slots n (own_marks n 64) 512 → Saturated s r → Ok r ≡ access_of t
 unfolding access_of
 access_done t b n s r p q e z k =
     let N = born_outside t.records 0 in
     let w : s ≡ slot_marks t.slots N (own_marks N 64) 512 = cc in
     let rows = table_words t s r (begun t.slots N N s (outside_lt t.records 0) w) k in
-    rw (sym p ∙ q, access_of) (λ i. record { reply = Done; rows = rows i })
+    rw (sym p ∙ q, access_of) (ap (λ (w : List ℕ). Ok w) rows)
 
-pub access_refused : (t : Table) (b : Bool) → b ≡ sound t → b ≡ false → record { reply = TableUnsound; rows = replicate 256 0 } ≡ access_of t
+pub access_refused : (t : Table) (b : Bool) → b ≡ sound t → b ≡ false → Err TableUnsound ≡ access_of t
 unfolding access_of
 access_refused t b p q = rw (sym p ∙ q, access_of) refl

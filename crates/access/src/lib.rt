@@ -9,37 +9,21 @@ pub mod start; // start.rt: the words that the rules start from
 ghost use Rattle.std.specs.Prelude.{◌≡◌};
 ghost use Rattle.access.specs.Answers.{access_of};
 
-// Done, or the table is not sound.
-#[derive(Clone, Copy)]
-pub enum AccessReply {
-    Done,
+// Why no relation is answered: the table is not sound.
+#[derive(Debug, Clone, Copy, PartialEq, Eq)]
+pub enum AccessRefusal {
     TableUnsound,
 }
 
-// The relation as rows of sets: the row at 64 * right + holder has the numbers over which the holder has the right,
-// with rights in the order rd, wr, wk, tx.
-#[derive(Clone, Copy)]
-pub struct Access {
-    pub reply: AccessReply,
-    pub rows: [u64; 256],
-}
-
-// The whole relation of a sound table; for any other the number 1 and no rights.
-pub fn potential_access(t: Table) -> Access
+// The whole relation of a sound table, as rows of sets: the row at 64 * right + holder has the numbers over which the holder has
+// the right, with rights in the order rd, wr, wk, tx.
+pub fn potential_access(t: Table) -> Result<[u64; 256], AccessRefusal>
     ensures { result ≡ access_of t }
 {
     if !table::is_sound(t) {
-        return Access {
-            reply: AccessReply::TableUnsound,
-            rows: [0; 256],
-        };
+        return Err(AccessRefusal::TableUnsound);
     }
-    let records = t.records;
-    let slots = t.slots;
-    let born = start::born_outside(records, 0);
-    let words = relation::saturate(start::held_words(slots, born, born));
-    Access {
-        reply: AccessReply::Done,
-        rows: words,
-    }
+    let born = start::born_outside(t.records, 0);
+    let words = relation::saturate(start::held_words(t.slots, born, born));
+    Ok(words)
 }

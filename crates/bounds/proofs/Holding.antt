@@ -1,15 +1,18 @@
--- The lowest member, found by a loop; who takes part in the test's holding, and what is held there. Assumes nothing.
-use mathlib.Core.Path.{◌≡◌, refl, subst}
+-- The lowest member, as the zeros below it; who takes part in the test's holding, and what is held there. Assumes nothing.
+use mathlib.Core.Path.{◌≡◌, refl, ◌∙◌, ap, subst}
 use mathlib.Core.Bool.{Bool, true, false, not}
 use mathlib.Core.List.{List}
-use Prim.Native.Nat.{ℕ, zero, suc, ◌+◌, ◌-◌, ◌≤◌, ◌<◌}
+use Prim.Native.Nat.{ℕ, zero, suc, ◌+◌, ◌-◌, ◌^◌, ◌≤◌, ◌<◌}
 use native.Mathlib.Omega.{arith}
 use native.Mathlib.Numerals.{add-one}
+use lib.Count.{count_trailing_zeros}
 use lib.Dec.{ltb, eqb}
 use lib.ListN.{length}
 use borrow.Author.Tests.{lt-ltb, eqb-true, eq-eqb, not-true}
 use Rattle.mask.specs.Sets.{has}
-use Rattle.mask.proofs.Tests.{by_cases, and_true, and_intro}
+use Rattle.mask.proofs.Tests.{by_cases, by_eq, and_true, and_intro}
+use Rattle.mask.proofs.Bits.{has_zero}
+use Rattle.mask.proofs.Lowest.{tz_there, tz_first, tz_none}
 use Rattle.table.specs.declared.Capability.{Capability}
 use Rattle.table.specs.declared.Table.{Table}
 use Rattle.table.specs.Cells.{slot_of, empty_slot}
@@ -20,29 +23,41 @@ use Rattle.access.proofs.TableWords.{outside_facts, outside_intro}
 use Rattle.bounds.specs.declared.EntryList.{EntryList}
 use Rattle.bounds.specs.StandIn.{entries_of, entry_at, listed, lowest_from, stand_in, test_node, test_held, test_holding}
 
--- the lowest member, found by a loop ------------------------------------------------
-pub record Seek (set i : ℕ) : Type 0 where
+-- the lowest member, as the zeros below it -------------------------------------------
+-- no number below i is in the set
+record Seek (set i : ℕ) : Type 0 where
   pub rest : lowest_from (64 - i) i (λ n. has n set) ≡ stand_in set
 
-pub seek_none : (set : ℕ) → Seek set 0
+seek_none : (set : ℕ) → Seek set 0
 unfolding stand_in
 seek_none set = record { rest = refl }
 
-pub seek_more : (set i : ℕ) → i < 64 → has i set ≡ false → Seek set i → Seek set (i + 1)
+seek_more : (set i : ℕ) → i < 64 → has i set ≡ false → Seek set i → Seek set (i + 1)
 unfolding lowest_from
 seek_more set i h e s =
     let f : 64 - i ≡ suc (64 - suc i) = omega arith in
     record { rest = rw add-one (rw (e, lowest_from) at (subst (λ (k : ℕ). lowest_from k i (λ n. has n set) ≡ stand_in set) f s.rest)) }
 
-pub seek_found : (set i : ℕ) → i < 64 → has i set ≡ true → Seek set i → i ≡ stand_in set
+seek_found : (set i : ℕ) → i < 64 → has i set ≡ true → Seek set i → i ≡ stand_in set
 unfolding lowest_from
 seek_found set i h e s =
     let f : 64 - i ≡ suc (64 - (i + 1)) = omega arith in
     rw (e, lowest_from) at (subst (λ (k : ℕ). lowest_from k i (λ n. has n set) ≡ stand_in set) f s.rest)
 
-pub seek_end : (set i : ℕ) → 64 ≤ i → i ≤ 64 → Seek set i → i ≡ stand_in set
+seek_end : (set i : ℕ) → 64 ≤ i → i ≤ 64 → Seek set i → i ≡ stand_in set
 unfolding lowest_from
 seek_end set i h l s = let f : 64 - i ≡ 0 = omega arith in subst (λ (k : ℕ). lowest_from k i (λ n. has n set) ≡ stand_in set) f s.rest
+
+seek_to : (set i : ℕ) → i ≤ 64 → ((j : ℕ) → j < i → has j set ≡ false) → Seek set i
+seek_to set zero h f = seek_none set
+seek_to set (suc i) h f = rw add-one at (seek_more set i (omega arith) (f i (omega arith)) (seek_to set i (omega arith) (λ j l. f j (omega arith))))
+
+pub zeros_stand_in : (set : ℕ) → set < 2 ^ 64 → count_trailing_zeros 64 set ≡ stand_in set
+zeros_stand_in set l = by_eq set 0
+    (λ z. ap (count_trailing_zeros 64) z ∙ tz_none 64
+    ∙ seek_end set 64 (omega arith) (omega arith) (seek_to set 64 (omega arith) (λ j h. ap (has j) z ∙ has_zero j)))
+    (λ q. let t = tz_there 64 set (omega (arith, q)) l in
+    seek_found set (count_trailing_zeros 64 set) t.0 t.1 (seek_to set (count_trailing_zeros 64 set) (omega (arith, t.0)) (tz_first 64 set)))
 
 lowest_has : (f i : ℕ) (p : ℕ → Bool) → lowest_from f i p < f + i → p (lowest_from f i p) ≡ true
 unfolding lowest_from

@@ -1,3 +1,3 @@
 -- What the proofs of the calls share.
 pub mod Answers
-pub mod Written
+pub mod Tables

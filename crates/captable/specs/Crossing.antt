@@ -1,19 +1,26 @@
 -- What crosses to C and Rust: every answer by document 01's number, 0 for done, with what goes with it.
-use Rattle.std.specs.Prelude.{cond, ℕ}
+use Rattle.std.specs.Prelude.{cond, List, ℕ, replicate, Result, Ok, Err}
 use Rattle.table.specs.declared.Table.{Table}
+use Rattle.table.specs.Cells.{unborn_table}
 use Rattle.table.specs.Soundness.{sound}
 use Rattle.steps.specs.declared.Stepped.{Stepped}
 use Rattle.refusals.specs.Replies.{number}
-use Rattle.access.specs.declared.Access.{Access}
+use Rattle.access.specs.declared.AccessRefusal.{AccessRefusal}
 use Rattle.access.specs.Answers.{access_number}
-use Rattle.confinement.specs.declared.Tested.{Tested}
+use Rattle.bounds.specs.declared.Grown.{Grown}
+use Rattle.confinement.specs.declared.TestRefusal.{TestRefusal}
 use Rattle.confinement.specs.Refusals.{verdict_number}
-use Rattle.chains.specs.declared.Shown.{Shown}
-use Rattle.chains.specs.Answers.{chain_number}
-use Rattle.image.specs.declared.Loaded.{Loaded}
+use Rattle.confinement.specs.Tests.{verdict_in, bound_in, rounds_in}
+use Rattle.walks.specs.declared.Walked.{Walked}
+use Rattle.chains.specs.declared.ChainRefusal.{ChainRefusal}
+use Rattle.chains.specs.Answers.{chain_number, reply_in, walked_in}
+use Rattle.image.specs.declared.ReadRefusal.{ReadRefusal}
 use Rattle.image.specs.Images.{read_number}
-use Rattle.take_grant.specs.declared.Imported.{Imported}
+use Rattle.image_out.specs.declared.WriteRefusal.{WriteRefusal}
+use Rattle.image_out.specs.Written.{write_number}
+use Rattle.take_grant.specs.declared.ImportRefusal.{ImportRefusal}
 use Rattle.take_grant.specs.Imports.{import_number}
+use Rattle.numbers.specs.Answered.{answer_number}
 use Rattle.captable.specs.declared.Outcome.{Outcome}
 use Rattle.captable.specs.declared.Relation.{Relation}
 use Rattle.captable.specs.declared.Finding.{Finding}
@@ -29,17 +36,26 @@ sound_number t = cond (sound t) 0 1
 abbrev pub stepped : Stepped → Outcome
 stepped s = record { table = s.table; number = number s.reply }
 
-abbrev pub related : Access → Relation
-related a = record { rows = a.rows; number = access_number a.reply }
+abbrev pub related : Result (List ℕ) AccessRefusal → Relation
+related (Ok rows) = record { rows = rows; number = 0 }
+related (Err why) = record { rows = replicate 256 0; number = access_number why }
 
-abbrev pub found : Tested → Finding
-found r = record { bound = r.bound; rounds = r.rounds; number = verdict_number r.verdict }
+abbrev pub found : Result Grown TestRefusal → Finding
+found r = record { bound = bound_in r; rounds = rounds_in r; number = verdict_number (verdict_in r) }
 
-abbrev pub chained : Shown → ShownChain
-chained s = record { numbers = s.numbers; count = s.count; number = chain_number s.reply }
+abbrev pub chained : Result Walked ChainRefusal → ShownChain
+chained r = record { numbers = (walked_in r).numbers; count = (walked_in r).count; number = chain_number (reply_in r) }
 
-abbrev pub loaded : Loaded → Outcome
-loaded l = record { table = l.table; number = read_number l.reply }
+-- what was read or brought in; on a refusal "the unborn table", document 01
+abbrev pub given : {E : Type 0} → (E → ℕ) → Result Table E → Outcome
+given of_refusal (Ok t) = record { table = t; number = 0 }
+given of_refusal (Err why) = record { table = unborn_table; number = of_refusal why }
 
-abbrev pub brought_in : Imported → Outcome
-brought_in i = record { table = i.table; number = import_number i.reply }
+abbrev pub loaded : Result Table ReadRefusal → Outcome
+loaded = given read_number
+
+abbrev pub brought_in : Result Table ImportRefusal → Outcome
+brought_in = given import_number
+
+abbrev pub written_number : Result (Unit {0}) WriteRefusal → ℕ
+written_number = answer_number write_number

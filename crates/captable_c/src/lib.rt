@@ -12,11 +12,11 @@ ghost use Rattle.table.specs.Cells.{unborn_table};
 ghost use Rattle.image.specs.declared.Version.TheVariants.{One, Two};
 ghost use Rattle.image.specs.Images.{read_of};
 ghost use Rattle.take_grant.specs.Imports.{import_of};
-ghost use Rattle.image_out.specs.Written.{write_number, write_refusal, written_of};
+ghost use Rattle.image_out.specs.Written.{write_refusal, written_of};
 ghost use Rattle.report.specs.Printed.{printed_of};
 ghost use Rattle.wire.specs.Wires.{ask_from};
 ghost use Rattle.entries.specs.Entries.{entries_in};
-ghost use Rattle.captable.specs.Crossing.{version, sound_number, stepped, related, found, chained, loaded, brought_in};
+ghost use Rattle.captable.specs.Crossing.{version, sound_number, stepped, related, found, chained, loaded, brought_in, written_number};
 
 use captable::{Finding, Outcome, Relation, ShownChain};
 use table::Table;
@@ -121,7 +121,7 @@ pub extern "C" fn captable_import(bytes: &[u8]) -> Outcome
 // Writes a table's image of version 2 into the first 1,987 bytes of a buffer; a refusal leaves every byte.
 #[unsafe(no_mangle)]
 pub extern "C" fn captable_write(table: Table, buffer: &mut [u8]) -> u8
-    ensures number { result ≡ write_number (write_refusal Two table buffer.old) }
+    ensures number { result ≡ written_number (write_refusal Two table buffer.old) }
     ensures left { buffer.new ≡ written_of Two table buffer.old }
 {
     captable::captable_write(table, buffer)
@@ -130,7 +130,7 @@ pub extern "C" fn captable_write(table: Table, buffer: &mut [u8]) -> u8
 // The older form: an image of version 1 in the first 1,923 bytes. It has no place for a maker, so 23 where some maker is not 64.
 #[unsafe(no_mangle)]
 pub extern "C" fn captable_write_older(table: Table, buffer: &mut [u8]) -> u8
-    ensures number { result ≡ write_number (write_refusal One table buffer.old) }
+    ensures number { result ≡ written_number (write_refusal One table buffer.old) }
     ensures left { buffer.new ≡ written_of One table buffer.old }
 {
     captable::captable_write_older(table, buffer)

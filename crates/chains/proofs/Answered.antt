@@ -1,12 +1,13 @@
 -- What an answer is made of: where a chain is shown, what the checks found; and the numbers that it shows. Assumes nothing.
-use mathlib.Core.Path.{◌≡◌, refl}
-use mathlib.Core.Bool.{Bool, true, false, ◌||◌}
-use mathlib.Core.List.{List}
+use mathlib.Core.Path.{◌≡◌, refl, sym, ◌∙◌, ap}
+use mathlib.Core.Bool.{Bool, true, false, ◌||◌, false≢true}
+use mathlib.Core.Logic.{◌≢◌}
+use mathlib.Core.List.{List, []}
 use Prim.Native.Nat.{ℕ, ◌≤◌}
 use native.Mathlib.Omega.{arith}
 use lib.Dec.{ltb, eqb}
 use lib.ListN.{length}
-use borrow.Author.Tests.{le-ltb, eqb-true, eqb-false, eq-eqb, ne_eqb}
+use borrow.Author.Tests.{le-ltb, eqb-false, eq-eqb, ne_eqb}
 use Rattle.mask.specs.Sets.{has}
 use Rattle.mask.proofs.Tests.{by_cases, clash, or_left, or_right}
 use Rattle.table.specs.declared.Capability.{Capability}
@@ -17,19 +18,21 @@ use Rattle.table.proofs.SoundFacts.{Sound}
 use Rattle.relation.specs.Relation.{takes_part}
 use Rattle.bounds.specs.StandIn.{stand_in, bound_of}
 use Rattle.relation.proofs.Tables.{part_low, takes_part_lem}
-use Rattle.confinement.specs.Refusals.{verdict_number, verdict_of}
-use Rattle.confinement.specs.Tests.{is_accepted}
-use Rattle.chains.specs.declared.ChainReply.{ChainReply}
-use Rattle.chains.specs.declared.ChainReply.TheVariants.{Done}
+use Rattle.confinement.specs.Refusals.{Verdict, Accepted, verdict_number, verdict_of}
+use Rattle.confinement.proofs.Verdicts.{accepted_is, refusal_not, verdict_split}
+use Rattle.std.specs.Prelude.{Ok, Err}
+use Rattle.walks.specs.declared.Walked.{Walked}
 use Rattle.walks.specs.Chains.{least_chain, walked}
 use Rattle.confinement.specs.Links.{object_link}
-use Rattle.chains.specs.Answers.{chain_number, bad_object, object_reply, chain_reply, shown, not_shown, chain_of}
+use Rattle.chains.specs.declared.ChainRefusal.{ChainRefusal}
+use Rattle.chains.specs.declared.ChainRefusal.TheVariants.{TestRefused, ObjectInvalid, OutsideBound}
+use Rattle.chains.specs.Answers.{chain_refusal_number, ChainReply, Done, chain_number, bad_object, object_reply, after_test, chain_reply, shown, chain_of, walked_in}
 use Rattle.chains.specs.Exactness.{numbers_of}
 
 -- the numbers of an answer
-pub numbers_shown : (reply : ChainReply) (cs : List ℕ) → length cs ≤ 63 → numbers_of (shown reply (walked cs)) ≡ cs
+pub numbers_shown : (cs : List ℕ) → length cs ≤ 63 → numbers_of (Ok (walked cs)) ≡ cs
 unfolding numbers_of
-numbers_shown reply cs h = padded_all 63 0 cs h
+numbers_shown cs h = padded_all 63 0 cs h
 
 -- which object is turned away ------------------------------------------------------------------------
 none_of : (a b c : Bool) → a ≡ false → b ≡ false → c ≡ false → (a || b || c) ≡ false
@@ -52,6 +55,20 @@ unfit_object t members z d p = or_left (ltb 63 z || is_unborn (record_at t z)) (
     (λ e. or_right (ltb 63 z) (is_unborn (record_at t z)) e)
     (λ e. let f = eqb-false (status_at t z) 0 e in clash (takes_part_lem t d z (omega (arith, f))) p))
 
+-- done, or one of the refusals -----------------------------------------------------------------------
+chain_refusal_not : (why : ChainRefusal) → chain_refusal_number why ≢ 0
+chain_refusal_not (TestRefused v) = refusal_not v
+chain_refusal_not ObjectInvalid = λ e. omega (arith, e)
+chain_refusal_not OutsideBound = λ e. omega (arith, e)
+
+done_is : (r : ChainReply) → chain_number r ≡ 0 → r ≡ Done
+done_is (Ok _) e = refl
+done_is (Err why) e = absurd (chain_refusal_not why e)
+
+refused_walked : (w : Walked) (r : ChainReply) → eqb (chain_number r) 0 ≡ false → walked_in (shown r w) ≡ walked []
+refused_walked w (Ok _) e = absurd (false≢true (sym e))
+refused_walked w (Err why) e = refl
+
 -- what the checks found ------------------------------------------------------------------------------
 module _ (t : Table) (members : ℕ) (list : List Capability) (z : ℕ) where
   pub record Found : Type 0 where
@@ -59,27 +76,38 @@ module _ (t : Table) (members : ℕ) (list : List Capability) (z : ℕ) where
     pub fit : bad_object t members z ≡ false
     pub inside : has z (bound_of t members list) ≡ true
 
-  accepts : is_accepted (verdict_of t members list) ≡ true → verdict_number (verdict_of t members list) ≡ 0
-  accepts e = eqb-true (verdict_number (verdict_of t members list)) 0 e
+  -- the reply by the verdict
+  pub reply_by : (v : Verdict) → verdict_of t members list ≡ v → chain_reply t members list z ≡ after_test v (object_reply t members list z)
+  unfolding chain_reply
+  reply_by v e = ap (λ (w : Verdict). after_test w (object_reply t members list z)) e
+
+  object_found : chain_number (object_reply t members list z) ≡ 0 → (bad_object t members z ≡ false) × (has z (bound_of t members list) ≡ true)
+  unfolding object_reply
+  object_found e = by_cases (bad_object t members z)
+      (λ b. absurd (omega (arith, rw (b, object_reply) at e)))
+      (λ b. by_cases (has z (bound_of t members list))
+      (λ c. (b, c))
+      (λ c. absurd (omega (arith, rw (b, object_reply, c) at e))))
 
   pub done_found : chain_number (chain_reply t members list z) ≡ 0 → Found
-  unfolding chain_reply object_reply
-  done_found e = by_cases (is_accepted (verdict_of t members list))
-      (λ a. by_cases (bad_object t members z)
-      (λ b. absurd (omega (arith, rw (a, chain_reply, b, object_reply) at e)))
-      (λ b. by_cases (has z (bound_of t members list))
-      (λ c. record { accepted = accepts a; fit = b; inside = c })
-      (λ c. absurd (omega (arith, rw (a, chain_reply, b, object_reply, c) at e)))))
-      (λ a. clash (eq-eqb _ 0 (rw (a, chain_reply) at e)) a)
+  done_found e = verdict_split (verdict_of t members list)
+      (λ a. let o = object_found (ap chain_number (sym (reply_by Accepted a)) ∙ e) in record { accepted = ap verdict_number a; fit = o.0; inside = o.1 })
+      (λ why a. absurd (refusal_not why (ap chain_number (sym (reply_by (Err why) a)) ∙ e)))
+
+  object_done : Found → object_reply t members list z ≡ Done
+  unfolding object_reply
+  object_done f = rw (f.fit, object_reply, f.inside) refl
 
   pub found_reply : Found → chain_reply t members list z ≡ Done
-  unfolding chain_reply object_reply
-  found_reply f = rw (eq-eqb _ 0 f.accepted, chain_reply, f.fit, object_reply, f.inside) refl
+  found_reply f = reply_by Accepted (accepted_is (verdict_of t members list) (eq-eqb _ 0 f.accepted)) ∙ object_done f
 
-  pub done_shown : chain_number (chain_reply t members list z) ≡ 0 → chain_of t members list z ≡ shown Done (walked (least_chain (object_link t members list) (stand_in members) z))
-  unfolding chain_of
-  done_shown e = rw (eq-eqb _ 0 e, chain_of) refl
+  abbrev given : Walked
+  given = walked (least_chain (object_link t members list) (stand_in members) z)
 
-  pub refused_shown : eqb (chain_number (chain_reply t members list z)) 0 ≡ false → chain_of t members list z ≡ not_shown (chain_reply t members list z)
+  pub done_shown : chain_number (chain_reply t members list z) ≡ 0 → chain_of t members list z ≡ Ok given
   unfolding chain_of
-  refused_shown e = rw (e, chain_of) refl
+  done_shown e = ap (λ (r : ChainReply). shown r given) (done_is (chain_reply t members list z) e)
+
+  pub refused_shown : eqb (chain_number (chain_reply t members list z)) 0 ≡ false → walked_in (chain_of t members list z) ≡ walked []
+  unfolding chain_of
+  refused_shown e = refused_walked given (chain_reply t members list z) e

@@ -20,14 +20,15 @@ use Rattle.table.proofs.SoundFacts.{Sound, sound_facts}
 use Rattle.bounds.specs.StandIn.{stand_in, bound_of}
 use Rattle.confinement.specs.Refusals.{verdict_number, verdict_of}
 use Rattle.confinement.proofs.TestFacts.{Facts, accepted_facts}
-use Rattle.chains.specs.declared.Shown.{Shown}
-use Rattle.chains.specs.declared.ChainReply.TheVariants.{Done}
+use Rattle.std.specs.Prelude.{Ok, Result}
+use Rattle.walks.specs.declared.Walked.{Walked}
+use Rattle.chains.specs.declared.ChainRefusal.{ChainRefusal}
 use Rattle.walks.specs.Chains.{Chain, last, more, First, least_chain, walked}
 use Rattle.walks.proofs.Shortest.{first_alone, none_shorter, walk_first, walk_length}
 use Rattle.walks.proofs.Layered.{Walks}
 use Rattle.walks.proofs.Lengths.{least_long, none_padded}
 use Rattle.confinement.specs.Links.{linked, object_link}
-use Rattle.chains.specs.Answers.{chain_number, bad_object, chain_reply, shown, chain_of}
+use Rattle.chains.specs.Answers.{chain_number, bad_object, chain_reply, chain_of, walked_in}
 use Rattle.chains.specs.Exactness.{numbers_of, before, ChainTo, Reaches, by, Shows, LinkComputed, LinkOfTest, LinksThere, ChainShown, NoneShorter, NoneFirst, OnlyOne, ChainForBound, ShownForBound, AtMost63, NoneOnRefusal}
 use Rattle.confinement.proofs.LinkFacts.{linked_link, link_linked, linked_test}
 use Rattle.chains.proofs.Answered.{numbers_shown, fit_object, Found, done_found, found_reply, done_shown, refused_shown}
@@ -95,28 +96,28 @@ module _ (t : Table) (members : ℕ) (list : List Capability) (z : ℕ) (s : Sho
   abbrev least : List ℕ
   least = least_chain (object_link t members list) (stand_in members) z
 
-  answer : chain_of t members list z ≡ shown Done (walked least)
+  answer : chain_of t members list z ≡ Ok (walked least)
   answer = done_shown t members list z s.done
 
   shown_numbers : numbers_of (chain_of t members list z) ≡ least
-  shown_numbers = ap numbers_of answer ∙ numbers_shown Done least (least_long (object_link t members list) (stand_in members) z)
+  shown_numbers = ap numbers_of answer ∙ numbers_shown least (least_long (object_link t members list) (stand_in members) z)
 
-  shown_count : (chain_of t members list z).count ≡ length least
-  shown_count = ap (λ (r : Shown). r.count) answer
+  shown_count : (walked_in (chain_of t members list z)).count ≡ length least
+  shown_count = ap (λ (r : Result Walked ChainRefusal). (walked_in r).count) answer
 
   least_chain_lem : ChainTo t members list z least
   least_chain_lem = let ok = accepted_facts t members list found.accepted in
       bound_chain t members list (sound_facts t (table_sized t s.table) ok.fine) ok z found.inside
 
-  shown_at : (i : ℕ) → i < length least → get_or (chain_of t members list z).numbers i 0 ≡ get_or least i 0
-  shown_at i h = ap (λ (r : Shown). get_or r.numbers i 0) answer
+  shown_at : (i : ℕ) → i < length least → get_or (walked_in (chain_of t members list z)).numbers i 0 ≡ get_or least i 0
+  shown_at i h = ap (λ (r : Result Walked ChainRefusal). get_or (walked_in r).numbers i 0) answer
       ∙ get_d_padded 63 0 least i (omega (arith, least_long (object_link t members list) (stand_in members) z, h))
 
   before_at : (i : ℕ) → i < length least → before members (chain_of t members list z) i ≡ before_in (stand_in members) least i
   before_at zero h = refl
   before_at (suc i) h = shown_at i (omega (arith, h))
 
-  pub numbers_long : length (numbers_of (chain_of t members list z)) ≡ (chain_of t members list z).count
+  pub numbers_long : length (numbers_of (chain_of t members list z)) ≡ (walked_in (chain_of t members list z)).count
   numbers_long = ap length shown_numbers ∙ sym shown_count
 
 -- the statements ---------------------------------------------------------------------------------------
@@ -184,11 +185,11 @@ shown_for_bound t members list a z = (
 pub at_most_63 : AtMost63
 unfolding AtMost63
 at_most_63 t members list z = by_cases (eqb (chain_number (chain_reply t members list z)) 0)
-    (λ e. omega (arith, ap (λ (r : Shown). r.count) (done_shown t members list z (eqb-true _ 0 e)), least_long (object_link t members list) (stand_in members) z))
-    (λ e. omega (arith, ap (λ (r : Shown). r.count) (refused_shown t members list z e)))
+    (λ e. omega (arith, ap (λ (r : Result Walked ChainRefusal). (walked_in r).count) (done_shown t members list z (eqb-true _ 0 e)), least_long (object_link t members list) (stand_in members) z))
+    (λ e. omega (arith, ap (λ (w : Walked). w.count) (refused_shown t members list z e)))
 
 pub none_on_refusal : NoneOnRefusal
 unfolding NoneOnRefusal
 none_on_refusal t members list z k e =
     let r = refused_shown t members list z (ap (λ (n : ℕ). eqb n 0) e ∙ ne_eqb (suc k) 0 (λ q. absurd (omega arith))) in
-    (ap (λ (s : Shown). s.count) r, ap (λ (s : Shown). s.numbers) r ∙ sym none_padded)
+    (ap (λ (w : Walked). w.count) r, ap (λ (w : Walked). w.numbers) r ∙ sym none_padded)

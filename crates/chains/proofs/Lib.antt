@@ -3,6 +3,5 @@ pub mod BoundChains
 pub mod Answered
 pub mod Claims
 pub mod Most
-pub mod LessLoop
 pub mod Words
 pub mod Ways

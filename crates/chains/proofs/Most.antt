@@ -20,14 +20,14 @@ use Rattle.bounds.specs.StandIn.{stand_in, bound_of}
 use Rattle.confinement.specs.Refusals.{verdict_of}
 use Rattle.confinement.specs.Links.{object_link}
 use Rattle.confinement.specs.Rounds.{objects_after}
-use Rattle.confinement.specs.Tests.{is_accepted, test_of}
+use Rattle.confinement.specs.Tests.{is_accepted, test_of, rounds_in}
 use Rattle.confinement.specs.Exactness.{Accepts, RoundsCounted, LastIsBound}
 use Rattle.confinement.proofs.TestFacts.{Facts, accepted_facts}
 use Rattle.confinement.proofs.ObjectLinks.{edge_low}
 use Rattle.confinement.proofs.Verdicts.{test_bound, test_none}
 use Rattle.confinement.proofs.Reported.{rounds_counted, last_is_bound, by_verdict}
-use Rattle.chains.specs.declared.Shown.{Shown}
-use Rattle.chains.specs.Answers.{chain_number, chain_reply, chain_of}
+use Rattle.walks.specs.declared.Walked.{Walked}
+use Rattle.chains.specs.Answers.{chain_number, chain_reply, chain_of, walked_in}
 use Rattle.chains.specs.Exactness.{Shows, ChainShown, NoneShorter, ShownForBound, most_below, most_links, MostLinks}
 use Rattle.chains.proofs.Answered.{done_found, refused_shown}
 use Rattle.chains.proofs.Claims.{chain_shown, shortest, shown_for_bound, numbers_long}
@@ -63,10 +63,10 @@ module _ (t : Table) (members : ℕ) (list : List Capability) (a : Accepts t mem
   after = objects_after t members list
 
   abbrev rounds : ℕ
-  rounds = (test_of t members list).rounds
+  rounds = rounds_in (test_of t members list)
 
   abbrev links : ℕ → ℕ
-  links z = (chain_of t members list z).count
+  links z = (walked_in (chain_of t members list z)).count
 
   ok : Facts t members list
   ok = accepted_facts t members list a.accepted
@@ -97,7 +97,7 @@ module _ (t : Table) (members : ℕ) (list : List Capability) (a : Accepts t mem
   each z h = by_cases (eqb (chain_number (chain_reply t members list z)) 0)
       (λ e. let d = eqb-true _ 0 e in
       no_sooner z rounds h (record { table = a.table; done = d }) (ap (has z) last_bound ∙ (shown_for_bound t members list a z).1 d))
-      (λ e. omega (arith, ap (λ (r : Shown). r.count) (refused_shown t members list z e)))
+      (λ e. omega (arith, ap (λ (w : Walked). w.count) (refused_shown t members list z e)))
 
   -- the last round that adds an object adds one with so many
   some : (k : ℕ) → rounds ≡ suc k → rounds ≤ most_links t members list
@@ -122,14 +122,14 @@ module _ (t : Table) (members : ℕ) (list : List Capability) (a : Accepts t mem
   accepted_most = omega (arith, all, most_least 64 rounds links each)
 
 -- of a refused one no chain is shown
-refused_none : (t : Table) (members : ℕ) (list : List Capability) (z : ℕ) → is_accepted (verdict_of t members list) ≡ false → (chain_of t members list z).count ≤ 0
+refused_none : (t : Table) (members : ℕ) (list : List Capability) (z : ℕ) → is_accepted (verdict_of t members list) ≡ false → (walked_in (chain_of t members list z)).count ≤ 0
 refused_none t members list z q = by_cases (eqb (chain_number (chain_reply t members list z)) 0)
     (λ e. clash (eq-eqb _ 0 (done_found t members list z (eqb-true _ 0 e)).accepted) q)
-    (λ e. omega (arith, ap (λ (r : Shown). r.count) (refused_shown t members list z e)))
+    (λ e. omega (arith, ap (λ (w : Walked). w.count) (refused_shown t members list z e)))
 
 -- the statement --------------------------------------------------------------------------------
 pub most_links_lem : MostLinks
 unfolding MostLinks most_links
 most_links_lem t v members list = by_verdict t v members list
     (λ a. accepted_most t members list a)
-    (λ q. omega (arith, (test_none t members list q).0, most_least 64 0 (λ z. (chain_of t members list z).count) (λ z h. refused_none t members list z q)))
+    (λ q. omega (arith, (test_none t members list q).0, most_least 64 0 (λ z. (walked_in (chain_of t members list z)).count) (λ z h. refused_none t members list z q)))

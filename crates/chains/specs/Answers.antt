@@ -1,6 +1,7 @@
 -- What is answered for a table, members, a list and an object. "Turned away: after the test's own refusals, 18 if the number is above 63,
 -- unborn or a member; 19 if it is outside the bound." On every refusal there is no number.
-use Rattle.std.specs.Prelude.{Bool, true, false, ◌||◌, List, [], ℕ, ltb, eqb}
+use Rattle.std.specs.Prelude.{Bool, true, false, ◌||◌, List, [], ℕ, ltb, Result, Ok, Err, ⊤}
+use Rattle.std.specs.Result.{result_and}
 use Rattle.mask.specs.Sets.{has}
 use Rattle.table.specs.declared.Capability.{Capability}
 use Rattle.table.specs.declared.Table.{Table}
@@ -8,18 +9,27 @@ use Rattle.table.specs.Cells.{record_at, is_unborn}
 use Rattle.bounds.specs.StandIn.{stand_in, bound_of}
 use Rattle.walks.specs.declared.Walked.{Walked}
 use Rattle.walks.specs.Chains.{least_chain, walked}
-use Rattle.confinement.specs.Refusals.{verdict_number, verdict_of}
-use Rattle.confinement.specs.Tests.{is_accepted}
-use Rattle.chains.specs.declared.ChainReply.{ChainReply}
-use Rattle.chains.specs.declared.ChainReply.TheVariants.{Done, TestRefused, ObjectInvalid, OutsideBound}
-use Rattle.chains.specs.declared.Shown.{Shown}
+use Rattle.confinement.specs.Refusals.{refusal_number, Verdict, verdict_of}
+use Rattle.chains.specs.declared.ChainRefusal.{ChainRefusal}
+use Rattle.chains.specs.declared.ChainRefusal.TheVariants.{TestRefused, ObjectInvalid, OutsideBound}
 use Rattle.confinement.specs.Links.{object_link}
 
+abbrev pub chain_refusal_number : ChainRefusal → ℕ
+chain_refusal_number (TestRefused why) = refusal_number why
+chain_refusal_number ObjectInvalid = 18
+chain_refusal_number OutsideBound = 19
+
+-- done, or why no chain is shown
+abbrev pub ChainReply : Type 0
+ChainReply = Result ⊤ ChainRefusal
+
+abbrev pub Done : ChainReply
+Done = Ok tt
+
+-- 0 is done
 abbrev pub chain_number : ChainReply → ℕ
-chain_number Done = 0
-chain_number (TestRefused v) = verdict_number v
-chain_number ObjectInvalid = 18
-chain_number OutsideBound = 19
+chain_number (Ok _) = 0
+chain_number (Err why) = chain_refusal_number why
 
 -- row 18: "above 63, unborn or a member"; a dead object may have its chain
 unfoldable pub bad_object : Table → ℕ → ℕ → Bool
@@ -29,29 +39,31 @@ bad_object t members object = ltb 63 object || is_unborn (record_at t object) ||
 unfoldable pub object_reply : Table → ℕ → List Capability → ℕ → ChainReply
 object_reply t members list object =
     elim (bad_object t members object) [
-      | true ↦ ObjectInvalid
-      | false ↦ elim (has object (bound_of t members list)) [ true ↦ Done | false ↦ OutsideBound ]
+      | true ↦ Err ObjectInvalid
+      | false ↦ elim (has object (bound_of t members list)) [ true ↦ Done | false ↦ Err OutsideBound ]
     ]
+
+-- the test's own refusals first
+abbrev pub after_test : Verdict → ChainReply → ChainReply
+after_test (Ok _) rest = rest
+after_test (Err why) rest = Err (TestRefused why)
 
 -- the test's own refusals, 18, 19
 unfoldable pub chain_reply : Table → ℕ → List Capability → ℕ → ChainReply
-chain_reply t members list object =
-    elim (is_accepted (verdict_of t members list)) [
-      | true ↦ object_reply t members list object
-      | false ↦ TestRefused (verdict_of t members list)
-    ]
+chain_reply t members list object = after_test (verdict_of t members list) (object_reply t members list object)
 
--- an answer with the numbers of a chain
-abbrev pub shown : ChainReply → Walked → Shown
-shown reply w = record { reply = reply; numbers = w.numbers; count = w.count }
+-- an answer with the numbers of a chain, if it is done
+abbrev pub shown : ChainReply → Walked → Result Walked ChainRefusal
+shown reply w = result_and reply (Ok w)
 
--- a refusal, with no number
-abbrev pub not_shown : ChainReply → Shown
-not_shown why = shown why (walked [])
+unfoldable pub chain_of : Table → ℕ → List Capability → ℕ → Result Walked ChainRefusal
+chain_of t members list object = shown (chain_reply t members list object) (walked (least_chain (object_link t members list) (stand_in members) object))
 
-unfoldable pub chain_of : Table → ℕ → List Capability → ℕ → Shown
-chain_of t members list object =
-    elim (eqb (chain_number (chain_reply t members list object)) 0) [
-      | true ↦ shown Done (walked (least_chain (object_link t members list) (stand_in members) object))
-      | false ↦ not_shown (chain_reply t members list object)
-    ]
+-- the parts of an answer: on a refusal no number
+abbrev pub reply_in : Result Walked ChainRefusal → ChainReply
+reply_in (Ok w) = Done
+reply_in (Err why) = Err why
+
+abbrev pub walked_in : Result Walked ChainRefusal → Walked
+walked_in (Ok w) = w
+walked_in (Err why) = walked []

@@ -1,5 +1,5 @@
 -- What document 02, 2.1 claims of the chain, and 2.6 of chains, as statements; proofs/Claims.antt and proofs/Most.antt prove them.
-use Rattle.std.specs.Prelude.{◌≡◌, ◌↔◌, true, false, List, ℕ, zero, suc, ◌≤◌, ◌<◌, ltb, length, get_or, replicate}
+use Rattle.std.specs.Prelude.{◌≡◌, ◌↔◌, true, false, List, ℕ, zero, suc, ◌≤◌, ◌<◌, ltb, length, get_or, replicate, Result}
 use Rattle.mask.specs.Sets.{has}
 use Rattle.table.specs.declared.Capability.{Capability}
 use Rattle.table.specs.declared.Table.{Table}
@@ -8,20 +8,21 @@ use Rattle.table.specs.Cells.{IsTable}
 use Rattle.relation.specs.Closure.{link}
 use Rattle.bounds.specs.StandIn.{stand_in, test_holding, bound_of}
 use Rattle.walks.specs.Chains.{Chain, First}
-use Rattle.confinement.specs.Tests.{test_of}
+use Rattle.confinement.specs.Tests.{test_of, rounds_in}
 use Rattle.confinement.specs.Exactness.{Accepts}
-use Rattle.chains.specs.declared.Shown.{Shown}
+use Rattle.walks.specs.declared.Walked.{Walked}
+use Rattle.chains.specs.declared.ChainRefusal.{ChainRefusal}
 use Rattle.confinement.specs.Links.{Link, linked, object_link}
-use Rattle.chains.specs.Answers.{chain_number, chain_reply, chain_of}
+use Rattle.chains.specs.Answers.{chain_number, chain_reply, chain_of, walked_in}
 
 -- the numbers that an answer shows
-unfoldable pub numbers_of : Shown → List ℕ
-numbers_of s = tabulate s.count (λ i. get_or s.numbers i 0)
+unfoldable pub numbers_of : Result Walked ChainRefusal → List ℕ
+numbers_of r = tabulate (walked_in r).count (λ i. get_or (walked_in r).numbers i 0)
 
 -- where the link to the number at place i comes from: before the first number is the stand-in
-abbrev pub before : ℕ → Shown → ℕ → ℕ
-before members s zero = stand_in members
-before members s (suc i) = get_or s.numbers i 0
+abbrev pub before : ℕ → Result Walked ChainRefusal → ℕ → ℕ
+before members r zero = stand_in members
+before members r (suc i) = get_or (walked_in r).numbers i 0
 
 -- a chain from the stand-in to z, and that there is one
 abbrev pub ChainTo : Table → ℕ → List Capability → ℕ → List ℕ → Type 0
@@ -45,8 +46,8 @@ LinkOfTest = (t : Table) (members : ℕ) (list : List Capability) → Accepts t 
 
 -- "Every link shown must be there": a slot of a non-member or an entry has it
 unfoldable pub LinksThere : Type 0
-LinksThere = (t : Table) (members : ℕ) (list : List Capability) (object : ℕ) → Shows t members list object → (i : ℕ) → i < (chain_of t members list object).count
-    → Link t members list (before members (chain_of t members list object) i) (get_or (chain_of t members list object).numbers i 0)
+LinksThere = (t : Table) (members : ℕ) (list : List Capability) (object : ℕ) → Shows t members list object → (i : ℕ) → i < (walked_in (chain_of t members list object)).count
+    → Link t members list (before members (chain_of t members list object) i) (get_or (walked_in (chain_of t members list object)).numbers i 0)
 
 -- what is shown is a chain to the object
 unfoldable pub ChainShown : Type 0
@@ -56,12 +57,12 @@ ChainShown = (t : Table) (members : ℕ) (list : List Capability) (object : ℕ)
 -- "a shortest chain"
 unfoldable pub NoneShorter : Type 0
 NoneShorter = (t : Table) (members : ℕ) (list : List Capability) (object : ℕ) → Shows t members list object
-    → (cs : List ℕ) → ChainTo t members list object cs → (chain_of t members list object).count ≤ length cs
+    → (cs : List ℕ) → ChainTo t members list object cs → (walked_in (chain_of t members list object)).count ≤ length cs
 
 -- "Among equal lengths, the chain whose numbers come first"
 unfoldable pub NoneFirst : Type 0
 NoneFirst = (t : Table) (members : ℕ) (list : List Capability) (object : ℕ) → Shows t members list object
-    → (cs : List ℕ) → ChainTo t members list object cs → length cs ≡ (chain_of t members list object).count → First (numbers_of (chain_of t members list object)) cs
+    → (cs : List ℕ) → ChainTo t members list object cs → length cs ≡ (walked_in (chain_of t members list object)).count → First (numbers_of (chain_of t members list object)) cs
 
 -- so it is the one chain that no other is shorter than, and none of its length before
 pub record Least (t : Table) (members : ℕ) (list : List Capability) (object : ℕ) (cs : List ℕ) : Type 0 where
@@ -84,11 +85,11 @@ ShownForBound = (t : Table) (members : ℕ) (list : List Capability) → Accepts
 
 -- at most 63 numbers; on every refusal none, and zeros
 unfoldable pub AtMost63 : Type 0
-AtMost63 = (t : Table) (members : ℕ) (list : List Capability) (object : ℕ) → (chain_of t members list object).count ≤ 63
+AtMost63 = (t : Table) (members : ℕ) (list : List Capability) (object : ℕ) → (walked_in (chain_of t members list object)).count ≤ 63
 
 unfoldable pub NoneOnRefusal : Type 0
 NoneOnRefusal = (t : Table) (members : ℕ) (list : List Capability) (object k : ℕ) → chain_number (chain_reply t members list object) ≡ suc k
-    → ((chain_of t members list object).count ≡ 0) × ((chain_of t members list object).numbers ≡ replicate 63 0)
+    → ((walked_in (chain_of t members list object)).count ≡ 0) × ((walked_in (chain_of t members list object)).numbers ≡ replicate 63 0)
 
 -- 2.6: "The number equals the most links in any of 2.1's chains, 0 for an empty bound". A chain of k numbers has k links, and to an object
 -- outside the bound there is none
@@ -97,7 +98,7 @@ most_below zero f = 0
 most_below (suc n) f = elim (ltb (most_below n f) (f n)) [ true ↦ f n | false ↦ most_below n f ]
 
 unfoldable pub most_links : Table → ℕ → List Capability → ℕ
-most_links t members list = most_below 64 (λ z. (chain_of t members list z).count)
+most_links t members list = most_below 64 (λ z. (walked_in (chain_of t members list z)).count)
 
 unfoldable pub MostLinks : Type 0
-MostLinks = (t : Table) → IsTable t → (members : ℕ) (list : List Capability) → (test_of t members list).rounds ≡ most_links t members list
+MostLinks = (t : Table) → IsTable t → (members : ℕ) (list : List Capability) → rounds_in (test_of t members list) ≡ most_links t members list

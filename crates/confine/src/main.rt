@@ -16,20 +16,11 @@ fn read_input<R: Read>(from: &mut R, input: &mut [u8; 2443]) -> io::Result<usize
     let mut got: usize = 0;
     for _ in 0..u64::MAX {
         match from.read(&mut input[got..]) {
-            Ok(n) => {
-                if n == 0 {
-                    return Ok(got);
-                }
-                got = got + n;
-            }
-            Err(error) => {
-                if error.raw_os_error() == Some(CLOSED) {
-                    return Ok(got);
-                }
-                if error.kind() != ErrorKind::Interrupted {
-                    return Err(error);
-                }
-            }
+            Ok(0) => return Ok(got),
+            Ok(n) => got += n,
+            Err(error) if error.raw_os_error() == Some(CLOSED) => return Ok(got),
+            Err(error) if error.kind() != ErrorKind::Interrupted => return Err(error),
+            Err(_) => {}
         }
     }
     Ok(got)

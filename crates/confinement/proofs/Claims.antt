@@ -28,12 +28,12 @@ use Rattle.bounds.specs.Agreement.{AgreeOutside}
 use Rattle.bounds.specs.Exactness.{BoundBlind, WithWeak, WeakEntriesFree}
 use Rattle.bounds.proofs.Exact.{bound_blind}
 use Rattle.bounds.proofs.Weak.{some_same, listed_still, weak_entries_free}
-use Rattle.confinement.specs.declared.Verdict.TheVariants.{Accepted}
-use Rattle.confinement.specs.declared.Tested.{Tested}
-use Rattle.confinement.specs.Refusals.{verdict_number, bad_members, bad_entry, bad_list, right_listed, all_listed, passes, bad_held, member_held, verdict_of}
+use Rattle.std.specs.Prelude.{Ok}
+use Rattle.std.specs.Result.{result_and}
+use Rattle.confinement.specs.Refusals.{Accepted, verdict_number, bad_members, bad_entry, bad_list, right_listed, all_listed, passes, bad_held, member_held, verdict_of}
 use Rattle.confinement.specs.Links.{slots_link, list_link, linked, object_link}
 use Rattle.confinement.specs.Rounds.{rounds_of}
-use Rattle.confinement.specs.Tests.{is_accepted, refused_test, test_of}
+use Rattle.confinement.specs.Tests.{test_of}
 use Rattle.confinement.specs.Exactness.{WeakPasses, empty_or_weak, AlikeButWeak, WeakNoMatter, OthersListed, WeakLegal, WeakChangesNothing, RoundsBlind}
 use Rattle.confinement.proofs.Scans.{missing}
 use Rattle.confinement.proofs.TestFacts.{listed_each, passed_listed, no_row, slot_passes, accepted_facts}
@@ -118,11 +118,8 @@ module _ (t u : Table) (members : ℕ) (list : List Capability) (like : AlikeBut
 
 pub weak_no_matter : WeakNoMatter
 unfolding WeakNoMatter test_of
-weak_no_matter t u members list e like =
-    (λ i. elim (is_accepted (same_verdict t u members list like e i)) as (λ k. Tested) [
-      | true ↦ record { verdict = Accepted; bound = same_bound t u members list like i; rounds = same_rounds t u members list like i }
-      | false ↦ refused_test (same_verdict t u members list like e i)
-    ])
+weak_no_matter t u members list e like = (λ i.
+    result_and (same_verdict t u members list like e i) (Ok (record { bound = same_bound t u members list like i; rounds = same_rounds t u members list like i })))
 
 pub weak_legal : WeakLegal
 unfolding WeakLegal bad_entry
@@ -173,5 +170,5 @@ unfolding WeakChangesNothing WeakEntriesFree
 weak_changes_nothing t members list longer e w f =
     let lowest = (accepted_facts t members list e).lowest in
     sym (accepted t members longer (still_accepted t members list longer w e f))
-    ∙ (λ i. record { verdict = Accepted; bound = weak_entries_free t members list longer w i; rounds = still_rounds t members list longer w lowest i })
+    ∙ (λ i. Ok (record { bound = weak_entries_free t members list longer w i; rounds = still_rounds t members list longer w lowest i }))
     ∙ accepted t members list (accepted_is (verdict_of t members list) (eq-eqb (verdict_number (verdict_of t members list)) 0 e))

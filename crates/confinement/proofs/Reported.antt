@@ -14,7 +14,7 @@ use Rattle.table.proofs.Cells.{table_sized}
 use Rattle.table.proofs.SoundFacts.{Sound, sound_facts}
 use Rattle.confinement.specs.Refusals.{verdict_number, verdict_of}
 use Rattle.confinement.specs.Rounds.{objects_after, rounds_of}
-use Rattle.confinement.specs.Tests.{is_accepted, test_of}
+use Rattle.confinement.specs.Tests.{is_accepted, test_of, rounds_in}
 use Rattle.confinement.specs.Exactness.{Accepts, RoundsCounted, LastIsBound, ZeroForEmpty, NoneOnRefusal, AtMost63}
 use Rattle.confinement.proofs.TestFacts.{Facts, accepted_facts}
 use Rattle.confinement.proofs.Rounds.{counted, last_bound, zero_empty, empty_zero, at_most}
@@ -30,7 +30,7 @@ module _ (t : Table) (members : ℕ) (list : List Capability) (a : Accepts t mem
   abbrev pub d : Sound t
   d = sound_facts t (table_sized t a.table) ok.fine
 
-  abbrev same : (test_of t members list).rounds ≡ rounds_of t members list
+  abbrev same : rounds_in (test_of t members list) ≡ rounds_of t members list
   same = test_rounds t members list yes
 
 pub rounds_counted : RoundsCounted

@@ -17,11 +17,11 @@ use Rattle.table.specs.declared.Table.{Table}
 use Rattle.table.specs.Cells.{record_at, slot_at, is_alive, is_empty}
 use Rattle.table.specs.Soundness.{sound}
 use Rattle.relation.specs.Relation.{Right, rd, wr, wk, tx, bit_at, takes_part}
-use Rattle.confinement.specs.declared.Verdict.{Verdict}
-use Rattle.confinement.specs.declared.Verdict.TheVariants.{Accepted, TableUnsound, MembersInvalid, ListInvalid, RightUnlisted, MemberHeld}
+use Rattle.confinement.specs.declared.TestRefusal.{TestRefusal}
+use Rattle.confinement.specs.declared.TestRefusal.TheVariants.{TableUnsound, MembersInvalid, ListInvalid, RightUnlisted, MemberHeld}
 use Rattle.bounds.specs.StandIn.{entry_at, listed, lowest_from, stand_in}
 use Rattle.bounds.proofs.Passing.{lowest_from_lem}
-use Rattle.confinement.specs.Refusals.{verdict_number, refuse, bad_members, bad_entry, bad_list, right_listed, all_listed, passes, bad_held, member_held, verdict_of}
+use Rattle.confinement.specs.Refusals.{Verdict, Accepted, refusal_number, verdict_number, refuse, bad_members, bad_entry, bad_list, right_listed, all_listed, passes, bad_held, member_held, verdict_of}
 
 pub record Facts (t : Table) (members : ℕ) (list : List Capability) : Type 0 where
   pub fine : sound t ≡ true
@@ -39,7 +39,7 @@ pub record Facts (t : Table) (members : ℕ) (list : List Capability) : Type 0 w
   pub unheld : (n j : ℕ) → n < 64 → j < 8 → has n members ≡ false → is_empty (slot_at t n j) ≡ false → has (slot_at t n j).target members ≡ false
 
 -- a cause that did not turn the test down
-passed : (cause : Bool) (why : Verdict) (k : ℕ) (rest : Verdict) → verdict_number why ≡ suc k → verdict_number (refuse cause why rest) ≡ 0
+passed : (cause : Bool) (why : TestRefusal) (k : ℕ) (rest : Verdict) → refusal_number why ≡ suc k → verdict_number (refuse cause why rest) ≡ 0
     → (cause ≡ false) × (verdict_number rest ≡ 0)
 passed true why k rest p e = absurd (omega arith)
 passed false why k rest p e = (refl, e)

@@ -13,7 +13,7 @@ use Rattle.bounds.specs.Agreement.{AgreeOutside}
 use Rattle.bounds.specs.Exactness.{WithWeak}
 use Rattle.confinement.specs.Refusals.{verdict_number, bad_entry, bad_list, passes, verdict_of}
 use Rattle.confinement.specs.Rounds.{objects_after, rounds_of}
-use Rattle.confinement.specs.Tests.{test_of}
+use Rattle.confinement.specs.Tests.{test_of, bound_in, rounds_in}
 
 -- 2.3 ------------------------------------------------------------------------------------------
 -- "a member's capability whose rights are exactly wk passes the test unlisted": whatever the list has
@@ -58,24 +58,24 @@ pub record Accepts (t : Table) (members : ℕ) (list : List Capability) : Type 0
 -- "the number of rounds that added an object": round k + 1 adds one exactly if k is below the number
 unfoldable pub RoundsCounted : Type 0
 RoundsCounted = (t : Table) (members : ℕ) (list : List Capability) → Accepts t members list
-    → (k : ℕ) → (k < (test_of t members list).rounds) ↔ (objects_after t members list (suc k) ≢ objects_after t members list k)
+    → (k : ℕ) → (k < rounds_in (test_of t members list)) ↔ (objects_after t members list (suc k) ≢ objects_after t members list k)
 
 -- what is there after the last of them is the bound
 unfoldable pub LastIsBound : Type 0
 LastIsBound = (t : Table) (members : ℕ) (list : List Capability) → Accepts t members list
-    → objects_after t members list (test_of t members list).rounds ≡ (test_of t members list).bound
+    → objects_after t members list (rounds_in (test_of t members list)) ≡ bound_in (test_of t members list)
 
 -- "0 for an empty bound", and for no other; a refused test has both
 unfoldable pub ZeroForEmpty : Type 0
-ZeroForEmpty = (t : Table) → IsTable t → (members : ℕ) (list : List Capability) → ((test_of t members list).rounds ≡ 0) ↔ ((test_of t members list).bound ≡ 0)
+ZeroForEmpty = (t : Table) → IsTable t → (members : ℕ) (list : List Capability) → (rounds_in (test_of t members list) ≡ 0) ↔ (bound_in (test_of t members list) ≡ 0)
 
 unfoldable pub NoneOnRefusal : Type 0
 NoneOnRefusal = (t : Table) (members : ℕ) (list : List Capability) (k : ℕ) → verdict_number (verdict_of t members list) ≡ suc k
-    → ((test_of t members list).rounds ≡ 0) × ((test_of t members list).bound ≡ 0)
+    → (rounds_in (test_of t members list) ≡ 0) × (bound_in (test_of t members list) ≡ 0)
 
 -- "at most 63", for every table
 unfoldable pub AtMost63 : Type 0
-AtMost63 = (t : Table) → IsTable t → (members : ℕ) (list : List Capability) → (test_of t members list).rounds ≤ 63
+AtMost63 = (t : Table) → IsTable t → (members : ℕ) (list : List Capability) → rounds_in (test_of t members list) ≤ 63
 
 -- no byte of a member enters it, as none enters the bound
 unfoldable pub RoundsBlind : Type 0

@@ -1,10 +1,15 @@
 -- The parts of the test that the code's helpers promise. They add nothing to what the test answers.
-use Rattle.std.specs.Prelude.{Bool, true, false, not, ◌&&◌, ◌||◌, List, ℕ, zero, suc, ltb, eqb, length}
+use Rattle.std.specs.Prelude.{◌≡◌, Bool, true, false, not, ◌&&◌, ◌||◌, List, ℕ, zero, suc, ltb, eqb, length}
 use Rattle.mask.specs.Sets.{has, any_below, union_of}
 use Rattle.table.specs.declared.Capability.{Capability}
 use Rattle.table.specs.Cells.{is_empty}
-use Rattle.bounds.specs.StandIn.{entry_at}
-use Rattle.confinement.specs.Refusals.{passes}
+use Rattle.table.specs.declared.Table.{Table}
+use Rattle.table.specs.Soundness.{sound}
+use Rattle.access.specs.Answers.{born_outside}
+use Rattle.bounds.specs.declared.EntryList.{EntryList}
+use Rattle.bounds.specs.StandIn.{entries_of, entry_at}
+use Rattle.confinement.specs.declared.Admitted.{Admitted}
+use Rattle.confinement.specs.Refusals.{bad_members, passes}
 
 -- row 11 by the set of born non-members
 abbrev pub entry_refused : ℕ → Capability → Bool
@@ -30,3 +35,8 @@ slot_unlisted members list n c = has n members && (not (has c.target members) &&
 -- row 13 at a slot of n
 abbrev pub slot_names_member : ℕ → ℕ → Capability → Bool
 slot_names_member members n c = not (has n members) && (not (is_empty c) && has c.target members)
+
+-- what rows 1, 10 and 11 let pass
+abbrev pub IsAdmitted : Table → ℕ → EntryList → Admitted → Type 0
+IsAdmitted t members list a = (a.list.list ≡ list) × (a.outside ≡ born_outside t.records members)
+    × (sound t ≡ true) × (bad_members t members ≡ false) × (list_refused a.outside (entries_of list) ≡ false)

@@ -1,26 +1,37 @@
 -- Document 01, "Why something is turned down", rows 1 and 10 to 13, in number order; row 12 as document 02, 2.3 amends it.
-use Rattle.std.specs.Prelude.{Bool, true, false, not, ◌&&◌, ◌||◌, List, ℕ, ltb, eqb, length}
+use Rattle.std.specs.Prelude.{Bool, true, false, not, ◌&&◌, ◌||◌, List, ℕ, ltb, eqb, length, Result, Ok, Err, ⊤}
 use Rattle.mask.specs.Sets.{has, any_below}
 use Rattle.table.specs.declared.Capability.{Capability}
 use Rattle.table.specs.declared.Table.{Table}
 use Rattle.table.specs.Cells.{record_at, slot_at, is_alive, is_empty}
 use Rattle.table.specs.Soundness.{sound}
 use Rattle.relation.specs.Relation.{Right, rd, wr, wk, tx, bit_at, takes_part}
-use Rattle.confinement.specs.declared.Verdict.{Verdict}
-use Rattle.confinement.specs.declared.Verdict.TheVariants.{Accepted, TableUnsound, MembersInvalid, ListInvalid, RightUnlisted, MemberHeld}
+use Rattle.confinement.specs.declared.TestRefusal.{TestRefusal}
+use Rattle.confinement.specs.declared.TestRefusal.TheVariants.{TableUnsound, MembersInvalid, ListInvalid, RightUnlisted, MemberHeld}
 use Rattle.bounds.specs.StandIn.{entry_at, listed}
 
-abbrev pub verdict_number : Verdict → ℕ
-verdict_number Accepted = 0
-verdict_number TableUnsound = 1
-verdict_number MembersInvalid = 10
-verdict_number ListInvalid = 11
-verdict_number RightUnlisted = 12
-verdict_number MemberHeld = 13
+abbrev pub refusal_number : TestRefusal → ℕ
+refusal_number TableUnsound = 1
+refusal_number MembersInvalid = 10
+refusal_number ListInvalid = 11
+refusal_number RightUnlisted = 12
+refusal_number MemberHeld = 13
 
--- the verdict where the cause holds, else what is left to check
-abbrev pub refuse : Bool → Verdict → Verdict → Verdict
-refuse true why rest = why
+-- accepted, or why the test was refused
+abbrev pub Verdict : Type 0
+Verdict = Result ⊤ TestRefusal
+
+abbrev pub Accepted : Verdict
+Accepted = Ok tt
+
+-- 0 is accepted
+abbrev pub verdict_number : Verdict → ℕ
+verdict_number (Ok _) = 0
+verdict_number (Err why) = refusal_number why
+
+-- the refusal where the cause holds, else what is left to check
+abbrev pub refuse : Bool → TestRefusal → Verdict → Verdict
+refuse true why rest = Err why
 refuse false why rest = rest
 
 -- row 10: "members empty, or one not alive"

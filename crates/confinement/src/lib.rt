@@ -1,19 +1,19 @@
 // The confinement test, document 01: which objects a newly loaded subsystem can ever influence.
 #![tactic(auto)]
 
-use bounds::EntryList;
+use bounds::{EntryList, Grown, ShortList};
 use table::Table;
 
 pub mod checks; // checks.rt: what turns the test down
 
-ghost use Rattle.std.specs.Prelude.{◌≡◌};
+ghost use Rattle.std.specs.Prelude.{◌≡◌, Err, MatchResult};
 ghost use Rattle.bounds.specs.StandIn.{entries_of};
-ghost use Rattle.confinement.specs.Tests.{refused_test, test_of};
+ghost use Rattle.confinement.specs.Tests.{test_of};
+ghost use Rattle.confinement.specs.Helpers.{IsAdmitted};
 
-// Accepted, or why the test was refused.
-#[derive(Clone, Copy)]
-pub enum Verdict {
-    Accepted,
+// Why the test was refused.
+#[derive(Debug, Clone, Copy, PartialEq, Eq)]
+pub enum TestRefusal {
     TableUnsound,
     MembersInvalid,
     ListInvalid,
@@ -21,50 +21,46 @@ pub enum Verdict {
     MemberHeld,
 }
 
-// The verdict, the bound, and the number of rounds that added an object to it: empty and 0 on every refusal.
+// What rows 1, 10 and 11 let pass: the born non-members, and the list, which is not too long.
 #[derive(Clone, Copy)]
-pub struct Tested {
-    pub verdict: Verdict,
-    pub bound: u64,
-    pub rounds: u8,
+pub struct Admitted {
+    pub outside: u64,
+    pub list: ShortList,
 }
 
-// A refusal, with an empty bound and no round.
-pub fn refused(why: Verdict) -> Tested
-    ensures { result ≡ refused_test why }
+// Refusals 1, 10 and 11, in this order.
+// Inlined, so that a test takes no further copy of the table on the stack.
+#[inline(always)]
+pub fn admit(t: &Table, members: u64, list: EntryList) -> Result<Admitted, TestRefusal>
+    ensures { MatchResult result (IsAdmitted t.now members list) (λ why. Err why ≡ test_of t.now members (entries_of list)) }
 {
-    Tested {
-        verdict: why,
-        bound: 0,
-        rounds: 0,
+    if !table::is_sound(*t) {
+        return Err(TestRefusal::TableUnsound);
     }
+    if checks::members_bad(*t, members) {
+        return Err(TestRefusal::MembersInvalid);
+    }
+    let outside = access::start::born_outside(t.records, members);
+    if checks::list_bad(outside, list) {
+        return Err(TestRefusal::ListInvalid);
+    }
+    let short = ShortList { list };
+    Ok(Admitted {
+        outside,
+        list: short,
+    })
 }
 
-// The test: refusals 1, 10, 11, 12 and 13 in this order, then the bound and the rounds that it grew by.
-pub fn test(t: Table, members: u64, list: EntryList) -> Tested
+// The test: refusals 1, 10, 11, 12 and 13 in this order, then the bound and the number of rounds that added an object to it.
+pub fn test(t: Table, members: u64, list: EntryList) -> Result<Grown, TestRefusal>
     ensures { result ≡ test_of t members (entries_of list) }
 {
-    if !table::is_sound(t) {
-        return refused(Verdict::TableUnsound);
-    }
-    if checks::members_bad(t, members) {
-        return refused(Verdict::MembersInvalid);
-    }
-    let records = t.records;
-    let outside = access::start::born_outside(records, members);
-    if checks::list_bad(outside, list) {
-        return refused(Verdict::ListInvalid);
-    }
-    if checks::right_unlisted(t, members, list) {
-        return refused(Verdict::RightUnlisted);
+    let admitted = admit(&t, members, list)?;
+    if checks::right_unlisted(t, members, admitted.list) {
+        return Err(TestRefusal::RightUnlisted);
     }
     if checks::member_held(t, members) {
-        return refused(Verdict::MemberHeld);
+        return Err(TestRefusal::MemberHeld);
     }
-    let found = bounds::bound(t, members, list, outside);
-    Tested {
-        verdict: Verdict::Accepted,
-        bound: found.bound,
-        rounds: found.rounds,
-    }
+    Ok(bounds::bound(t, members, admitted.list, admitted.outside))
 }

@@ -3,12 +3,11 @@
 use mathlib.Core.Path.{◌≡◌, refl, sym, ◌∙◌, ap}
 use mathlib.Core.Bool.{true, false, not, ◌&&◌, ◌||◌}
 use mathlib.Core.List.{List, [], ◌∷◌, ◌++◌}
-use Prim.Native.Nat.{ℕ, zero, suc, ◌+◌, ◌*◌, ◌<◌}
-use native.Mathlib.Nat.{add-zero}
+use Prim.Native.Nat.{ℕ, zero, suc, ◌+◌, ◌<◌}
 use native.Mathlib.Numerals.{add-one}
 use native.Mathlib.Omega.{arith}
 use lib.Dec.{eqb}
-use lib.ListN.{get_or}
+use lib.ListN.{get_or, length}
 use borrow.Author.Tests.{eq-eqb, ne_eqb}
 use Rattle.mask.proofs.Tests.{by_cases, by_eq, or_none}
 use Rattle.table.specs.declared.Capability.{Capability}
@@ -16,7 +15,7 @@ use Rattle.table.specs.declared.Table.{Table}
 use Rattle.table.specs.Lists.{tabulate}
 use Rattle.table.specs.Cells.{empty_slot, record_at, slot_at, put_slot, is_empty}
 use Rattle.table.proofs.Cells.{Sized, table_sized, slot_same, slot_beside, sized_put_slot}
-use Rattle.table.proofs.Lists.{get_d_tabulate, tabulate_snoc}
+use Rattle.table.proofs.Lists.{get_d_tabulate, as_tabulate, tabulate_snoc}
 use Rattle.requests.specs.declared.Pair.{Pair}
 use Rattle.requests.specs.declared.PairList.{PairList}
 use Rattle.requests.specs.Asks.{pair_at, pairs_of}
@@ -46,13 +45,14 @@ pub copy_none : (t : Table) (source : ℕ → Capability) (n : ℕ) (f : ℕ →
 unfolding copy_pairs tabulate
 copy_none t source n f = refl
 
--- `u` is the table after x pairs, and `c` what landed by the next
-pub copy_more : (t u : Table) (source : ℕ → Capability) (n x : ℕ) (f : ℕ → Pair) (c : Capability)
-    → u ≡ copy_pairs t source n (tabulate x f) → c ≡ landed (slot_at u n (f x).to) (source (f x).from)
-    → put_slot u n (f x).to c ≡ copy_pairs t source n (tabulate (x + 1) f)
-copy_more t u source n x f c e h =
-    ap (put_slot u n (f x).to) h
-    ∙ ap (λ (v : Table). copy_to v n (f x).to (source (f x).from)) e
+-- `u` is the table after x pairs, `p` the pair at x, and `c` what landed by it
+pub copy_more : (t u : Table) (source : ℕ → Capability) (n x : ℕ) (f : ℕ → Pair) (p : Pair) (c : Capability)
+    → u ≡ copy_pairs t source n (tabulate x f) → p ≡ f x → c ≡ landed (slot_at u n p.to) (source p.from)
+    → put_slot u n p.to c ≡ copy_pairs t source n (tabulate (x + 1) f)
+copy_more t u source n x f p c e q h =
+    ap (put_slot u n p.to) h
+    ∙ ap (λ (v : Table). copy_to v n p.to (source p.from)) e
+    ∙ ap (λ (r : Pair). copy_to (copy_pairs t source n (tabulate x f)) n r.to (source r.from)) q
     ∙ rw (add-one x, tabulate_snoc x f) (sym (copy_snoc t source n (tabulate x f) (f x)))
 
 pub copy_all : (t : Table) (source : ℕ → Capability) (n x : ℕ) (l : PairList) → x ≡ l.count
@@ -69,15 +69,10 @@ copy_same t f g n (suc x) p h =
     ∙ ap (λ (c : Capability). copy_pairs (copy_to t n (p 0).to c) g n (tabulate x (λ k. p (suc k)))) (h 0 (omega arith))
 
 -- a record's eight slots as a row ------------------------------------------------------------------------
--- as the code reads it: its first slot at i, the other seven by their numbers
-abbrev row_from : Table → ℕ → ℕ → Row
-row_from t k i = record {
-  cells = get_or t.slots i empty_slot ∷ slot_at t k 1 ∷ slot_at t k 2 ∷ slot_at t k 3 ∷ slot_at t k 4 ∷ slot_at t k 5 ∷ slot_at t k 6 ∷ slot_at t k 7 ∷ [];
-}
-
-pub row_is : (t : Table) (k : ℕ) → row_from t k (k * 8) ≡ row_at t k
-unfolding row_at tabulate
-row_is t k = ap (row_from t k) (sym (add-zero (k * 8)))
+pub row_is : (t : Table) (k : ℕ) (cells : List Capability) → length cells ≡ 8 → ((j : ℕ) → j < 8 → get_or cells j empty_slot ≡ slot_at t k j)
+    → record { cells = cells } ≡ row_at t k
+unfolding row_at
+row_is t k cells z f = ap {B = Row} (λ (l : List Capability). record { cells = l }) (as_tabulate 8 (slot_at t k) empty_slot cells z f)
 
 cell_is : (t : Table) (k j : ℕ) → j < 8 → cell_of (row_at t k) j ≡ slot_at t k j
 unfolding row_at

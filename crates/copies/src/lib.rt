@@ -31,7 +31,7 @@ pub fn fetched(rights: u8, c: Capability) -> Capability
 pub fn landed(old: Capability, copy: Capability) -> Capability
     ensures { result ≡ landed_on old copy }
 {
-    if (copy.target == 0) & (copy.rights == 0) {
+    if copy.is_empty() {
         return old;
     }
     copy
@@ -43,16 +43,7 @@ pub fn row_of(t: Table, k: usize) -> Row
     ensures { result ≡ row_at t k }
 {
     Row {
-        cells: [
-            t.slots[k * 8],
-            t.slots[k * 8 + 1],
-            t.slots[k * 8 + 2],
-            t.slots[k * 8 + 3],
-            t.slots[k * 8 + 4],
-            t.slots[k * 8 + 5],
-            t.slots[k * 8 + 6],
-            t.slots[k * 8 + 7],
-        ],
+        cells: std::array::from_fn(|j| t.slots[k * 8 + j]),
     }
 }
 
@@ -62,18 +53,11 @@ pub fn copy_pairs(t: Table, row: Row, n: u8, l: PairList) -> Table
     ensures { result ≡ copy_pairs t (cell_of row) n (pairs_of l) }
 {
     let m = n as usize;
-    let count = l.count as usize;
     let mut u = t;
-    let mut x: usize = 0;
-    'pairs: while x < count {
-        let p = l.pairs[x];
-        let from = p.from as usize;
-        let to = p.to as usize;
-        let got = row.cells[from];
-        let old = u.slots[m * 8 + to];
-        let new = landed(old, got);
-        u.slots[m * 8 + to] = new;
-        x = x + 1;
+    'pairs: for p in &l.pairs[..l.count as usize] {
+        let to = m * 8 + p.to as usize;
+        let got = row.cells[p.from as usize];
+        u.slots[to] = landed(u.slots[to], got);
     }
     u
 }

@@ -1,9 +1,18 @@
 -- The requests that change several places: the table that the code has put together is the one that the definition names.
 -- By putting in what each call ensures. Assumes nothing.
-use mathlib.Core.Path.{◌≡◌, refl, ◌∙◌, ap, ap₂}
-use Prim.Native.Nat.{ℕ, ◌+◌, ◌≤◌, ◌<◌}
+use mathlib.Core.Path.{◌≡◌, refl, sym, ◌∙◌, ap, ap₂}
+use mathlib.Core.List.{List, []}
+use Prim.Native.Nat.{ℕ, zero, suc, ◌+◌, ◌*◌, ◌≤◌, ◌<◌}
+use native.Mathlib.Omega.{arith}
 use native.Mathlib.Numerals.{add-one}
 use borrow.Author.Tests.{lt-ltb, le-ltb}
+use borrow.Rule.Slice.PartMut.{put_mid}
+use lib.ListN.{length, set, replicate}
+use lib.Seq.{paste}
+use Rattle.std.proofs.lemmas.List.Edits.{paste_none, fill_from_more}
+use Rattle.std.proofs.lemmas.Slice.{put_mid-paste}
+use Rattle.table.specs.declared.Capability.{Capability}
+use Rattle.table.proofs.Cells.{tables_same}
 use Rattle.mask.specs.Sets.{including, excluding, less_of, union_of}
 use Rattle.table.specs.declared.Table.{Table}
 use Rattle.table.specs.Cells.{empty_slot, unborn_record, record_at, slot_at, stock_at, put_record, put_slot}
@@ -44,20 +53,31 @@ allocated_is t u a n kind part i l row rest stock fit e p q f =
     ∙ ap (λ (m : ℕ). copy_pairs (put_record (put_record t a (with_stock (record_at t a) m)) n (made a kind part)) (slot_at t a) n (pairs_of l))
     (q ∙ ap (λ (x : ℕ). less_of x part) p))
 
--- destroy: the slots one by one, then the two records
-pub clear_none : (t : Table) (n : ℕ) → t ≡ clear_slots t n 0
+-- destroy: the slots in a row, then the two records. `cells` is what the slots were filled with
+clear_rows : (t : Table) (g k : ℕ) → (clear_slots t g k).records ≡ t.records
 unfolding clear_slots
-clear_none t n = refl
+clear_rows t g zero = refl
+clear_rows t g (suc k) = clear_rows t g k
 
-pub clear_more : (t u : Table) (n k : ℕ) → u ≡ clear_slots t n k → put_slot u n k empty_slot ≡ clear_slots t n (k + 1)
+clear_pasted : (t : Table) (g k : ℕ) → g * 8 + k ≤ length t.slots
+    → (clear_slots t g k).slots ≡ paste t.slots (g * 8) (replicate k empty_slot) k
 unfolding clear_slots
-clear_more t u n k e = ap (λ (v : Table). put_slot v n k empty_slot) e ∙ rw (add-one k) refl
+clear_pasted t g zero h = paste_none t.slots (g * 8) []
+clear_pasted t g (suc k) h =
+    ap (λ (l : List Capability). set l (g * 8 + k) empty_slot) (clear_pasted t g k (omega arith))
+    ∙ fill_from_more t.slots (g * 8) k empty_slot (omega arith)
+    ∙ rw add-one refl
 
-pub destroyed_is : (t u : Table) (a g x stock : ℕ) → u ≡ clear_slots t g x → x ≡ 8 → stock ≡ union_of (stock_at t a) (stock_at t g)
+pub cleared : (t : Table) (g k : ℕ) (cells : List Capability) → length t.slots ≡ 512 → g < 64 → k ≡ 8 → cells ≡ replicate 8 empty_slot
+    → ◌≡◌ {A = Table} (record { records = t.records; slots = put_mid (g * 8) k t.slots cells }) (clear_slots t g 8)
+cleared t g k cells z h q e = tables_same (sym (clear_rows t g 8))
+    (put_mid-paste (g * 8) k t.slots cells (replicate 8 empty_slot) 8 e (sym q) refl ∙ sym (clear_pasted t g 8 (omega arith)))
+
+pub destroyed_is : (t u : Table) (a g stock : ℕ) → u ≡ clear_slots t g 8 → stock ≡ union_of (stock_at t a) (stock_at t g)
     → put_record (put_record u g (died (record_at t g))) a (with_stock (record_at t a) stock) ≡ destroyed t a g
 unfolding destroyed
-destroyed_is t u a g x stock e h f =
-    ap₂ (λ (v : Table) (m : ℕ). put_record (put_record v g (died (record_at t g))) a (with_stock (record_at t a) m)) (e ∙ ap (clear_slots t g) h) f
+destroyed_is t u a g stock e f =
+    ap₂ (λ (v : Table) (m : ℕ). put_record (put_record v g (died (record_at t g))) a (with_stock (record_at t a) m)) e f
 
 -- reclaim: the two records of a table where the number is forgotten
 pub reclaimed_is : (t u : Table) (a g stock : ℕ) → u ≡ forgotten t g → stock ≡ including g (stock_at (put_record u g unborn_record) a)

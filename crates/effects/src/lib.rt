@@ -69,27 +69,16 @@ pub fn destroyed(t: Table, a: u8, g: u8) -> Table
     let mut u = t;
     let giver = u.records[m];
     let taker = u.records[k];
-    let mut x: usize = 0;
-    'slots: while x < 8 {
-        u.slots[m * 8 + x] = Capability {
-            target: 0,
-            rights: 0,
-        };
-        x = x + 1;
-    }
+    u.slots[m * 8..m * 8 + 8].fill(Capability::EMPTY);
     u.records[m] = Record {
         status: 2,
-        kind: giver.kind,
-        maker: giver.maker,
         word: 0, // lost, as its slots are
         stock: 0,
+        ..giver
     };
     u.records[k] = Record {
-        status: taker.status,
-        kind: taker.kind,
-        maker: taker.maker,
-        word: taker.word,
         stock: mask::union(taker.stock, giver.stock),
+        ..taker
     };
     u
 }
@@ -103,13 +92,7 @@ pub fn reclaimed(t: Table, a: u8, g: u8) -> Table
     let m = g as usize;
     let bare = slots_forgotten(t, g);
     let mut u = makers_forgotten(bare, g);
-    u.records[m] = Record {
-        status: 0,
-        kind: 0,
-        maker: 64,
-        word: 0,
-        stock: 0,
-    };
+    u.records[m] = Record::UNBORN;
     let taker = u.records[k];
     u.records[k].stock = mask::with(taker.stock, g);
     u

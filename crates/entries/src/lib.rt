@@ -14,18 +14,13 @@ fn entries_in(bytes: &[u8], n: usize) -> [Capability; 8]
     requires { (n ≤ 8) × (2 * n ≤ length bytes.now) }
     ensures { result ≡ padded 8 empty_slot (tabulate n (entry_in bytes.now)) }
 {
-    let nothing = Capability {
-        target: 0,
-        rights: 0,
-    };
+    let nothing = Capability::EMPTY;
     let mut entries = [nothing; 8];
-    let mut k: usize = 0;
-    while k < n {
-        entries[k] = Capability {
+    for (k, entry) in entries[..n].iter_mut().enumerate() {
+        *entry = Capability {
             target: bytes[2 * k],
             rights: bytes[2 * k + 1],
         };
-        k = k + 1;
     }
     entries
 }
@@ -34,10 +29,7 @@ fn entries_in(bytes: &[u8], n: usize) -> [Capability; 8]
 fn too_long() -> EntryList
     ensures { result ≡ record { count = 9; entries = replicate 8 empty_slot } }
 {
-    let nothing = Capability {
-        target: 0,
-        rights: 0,
-    };
+    let nothing = Capability::EMPTY;
     EntryList {
         count: 9,
         entries: [nothing; 8],
@@ -58,6 +50,6 @@ pub fn list_of(bytes: &[u8]) -> EntryList
     let entries = entries_in(bytes, n);
     EntryList {
         count: n as u8,
-        entries: entries,
+        entries,
     }
 }

@@ -22,12 +22,12 @@ use Rattle.bounds.specs.StandIn.{listed, lowest_from, stand_in}
 use Rattle.confinement.specs.Refusals.{verdict_number, bad_members, bad_entry, bad_list, all_listed, passes, bad_held, member_held, verdict_of}
 use Rattle.confinement.specs.Links.{slots_link, list_link, linked, object_link}
 use Rattle.confinement.specs.Rounds.{rounds_of}
-use Rattle.confinement.specs.Tests.{test_of}
+use Rattle.confinement.specs.Tests.{test_of, rounds_in}
 use Rattle.examples.specs.TableK.{K, active, over, wr_right}
 use Rattle.examples.specs.Statement.{the}
 use Rattle.examples.specs.Rounds.{row_slot, row, RoundsOnTables}
 
-example : (test_of K (the 5) (over 1 wr_right ∷ [])).rounds ≡ 2
+example : rounds_in (test_of K (the 5) (over 1 wr_right ∷ [])) ≡ 2
 unfolding K bits all_below any_below stock_sound sound_at sound takes_part grow capability_link there_after adding_from rounds_from listed lowest_from stand_in bad_members bad_entry bad_list all_listed passes bad_held member_held verdict_of slots_link list_link linked object_link rounds_of test_of
 example = refl
 
@@ -35,7 +35,7 @@ accepted : verdict_number (verdict_of row (the 0) (over 1 wr_right ∷ [])) ≡ 
 unfolding row tabulate bits all_below any_below stock_sound sound_at sound takes_part listed lowest_from stand_in bad_members bad_entry bad_list all_listed passes bad_held member_held verdict_of
 accepted = refl
 
-farthest : (test_of row (the 0) (over 1 wr_right ∷ [])).rounds ≡ 63
+farthest : rounds_in (test_of row (the 0) (over 1 wr_right ∷ [])) ≡ 63
 unfolding row tabulate bits all_below any_below stock_sound sound_at sound takes_part grow capability_link there_after adding_from rounds_from listed lowest_from stand_in bad_members bad_entry bad_list all_listed passes bad_held member_held verdict_of slots_link list_link linked object_link rounds_of test_of
 farthest = refl
 

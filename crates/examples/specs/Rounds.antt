@@ -4,7 +4,7 @@ use Rattle.table.specs.declared.Capability.{Capability}
 use Rattle.table.specs.declared.Table.{Table}
 use Rattle.table.specs.Lists.{tabulate}
 use Rattle.table.specs.Cells.{empty_slot}
-use Rattle.confinement.specs.Tests.{test_of}
+use Rattle.confinement.specs.Tests.{test_of, rounds_in}
 use Rattle.confinement.specs.Exactness.{Accepts}
 use Rattle.examples.specs.TableK.{K, active, over, wr_right}
 use Rattle.examples.specs.Statement.{the}
@@ -18,7 +18,7 @@ row = record { records = tabulate 64 (λ n. active 0); slots = tabulate 512 row_
 
 pub record RoundsOnTables : Type 0 where
   -- round one adds 1, the second 0 and 2
-  pub example : (test_of K (the 5) (over 1 wr_right ∷ [])).rounds ≡ 2
+  pub example : rounds_in (test_of K (the 5) (over 1 wr_right ∷ [])) ≡ 2
   -- member 0, which lists the next one: each round adds one number
   pub accepts : Accepts row (the 0) (over 1 wr_right ∷ [])
-  pub farthest : (test_of row (the 0) (over 1 wr_right ∷ [])).rounds ≡ 63
+  pub farthest : rounds_in (test_of row (the 0) (over 1 wr_right ∷ [])) ≡ 63

@@ -10,10 +10,11 @@ use Rattle.refusals.specs.Refusals.{refusal}
 use Rattle.steps.specs.Steps.{after, step_of}
 use Rattle.relation.specs.Relation.{Right, rd, wr, wk, tx, Can, table_holding}
 use Rattle.confinement.specs.Refusals.{verdict_number}
-use Rattle.confinement.specs.Tests.{test_of}
+use Rattle.confinement.specs.Tests.{test_of, verdict_in, bound_in}
 use Rattle.octets.specs.BigEndian.{bytes_of}
 use Rattle.image.specs.declared.Version.TheVariants.{One}
 use Rattle.image.specs.Layout.{image_of}
+use Rattle.std.specs.Result.{IsErrAnd}
 use Rattle.image.specs.Images.{read_of, read_number}
 use Rattle.report.specs.Printed.{printed_of}
 use Rattle.examples.specs.TableK.{K, over, wr_right, wk_right}
@@ -43,12 +44,12 @@ pub record Twelve : Type 0 where
   pub one : printed_of input
       ≡ 97 ∷ 99 ∷ 99 ∷ 101 ∷ 112 ∷ 116 ∷ 101 ∷ 100 ∷ 10 ∷ 48 ∷ 10 ∷ 49 ∷ 10 ∷ 50 ∷ 10 ∷ []
   -- as 2.3 amends it: with the list (1, wk), and with the list empty
-  pub two : ((verdict_number (test_of weak_k (the 5) (over 1 wk_right ∷ [])).verdict ≡ 0) × ((test_of weak_k (the 5) (over 1 wk_right ∷ [])).bound ≡ 0))
-      × ((verdict_number (test_of weak_k (the 5) []).verdict ≡ 0) × ((test_of weak_k (the 5) []).bound ≡ 0))
-  pub three : verdict_number (test_of K (the 5) []).verdict ≡ 12
-  pub four : verdict_number (test_of watched_k (the 5) (over 1 wr_right ∷ [])).verdict ≡ 13
+  pub two : ((verdict_number (verdict_in (test_of weak_k (the 5) (over 1 wk_right ∷ []))) ≡ 0) × (bound_in (test_of weak_k (the 5) (over 1 wk_right ∷ [])) ≡ 0))
+      × ((verdict_number (verdict_in (test_of weak_k (the 5) [])) ≡ 0) × (bound_in (test_of weak_k (the 5) []) ≡ 0))
+  pub three : verdict_number (verdict_in (test_of K (the 5) [])) ≡ 12
+  pub four : verdict_number (verdict_in (test_of watched_k (the 5) (over 1 wr_right ∷ []))) ≡ 13
   -- whatever is listed
-  pub five : (list : List Capability) → (verdict_number (test_of K 0 list).verdict ≡ 10) × (verdict_number (test_of K (the 10) list).verdict ≡ 10)
+  pub five : (list : List Capability) → (verdict_number (verdict_in (test_of K 0 list)) ≡ 10) × (verdict_number (verdict_in (test_of K (the 10) list)) ≡ 10)
   pub six : (number (step_of K (making 10)).reply ≡ 0) × (stock_at (step_of K (making 10)).table 10 ≡ the 11) × (stock_at (step_of K (making 10)).table 5 ≡ 0)
   pub seven : number (refusal K (making 12)) ≡ 9
   pub eight : (target : ℕ) → (weaken (over target 1) ≡ over target 4) × (weaken (over target 15) ≡ over target 4) × (weaken (over target 10) ≡ empty_slot)
@@ -59,4 +60,4 @@ pub record Twelve : Type 0 where
   pub eleven : ((b : Right) → Can (table_holding K) b 5 0)
       × (Can (table_holding K) wk 2 1 × (Can (table_holding K) rd 2 1 → ⊥) × (Can (table_holding K) wr 2 1 → ⊥) × (Can (table_holding K) tx 2 1 → ⊥))
       × ((b : Right) → Can (table_holding K) b 1 2 → ⊥)
-  pub twelve : (read_number (read_of (take 1922 (image_of One K))).reply ≡ 14) × (read_number (read_of (set (image_of One K) 2 0)).reply ≡ 15)
+  pub twelve : IsErrAnd (read_of (take 1922 (image_of One K))) (λ why. read_number why ≡ 14) × IsErrAnd (read_of (set (image_of One K) 2 0)) (λ why. read_number why ≡ 15)

@@ -5,29 +5,20 @@
 ghost use Rattle.std.specs.Prelude.{◌≡◌};
 ghost use Rattle.forgetting.specs.Forgetting.{unnamed as unnamed_in, maker_left, slots_forgotten, makers_forgotten};
 
-use table::{Capability, Table};
+use table::{Capability, NOBODY, Table};
 
 // What a slot holds once nothing names g: an empty slot in place of a capability that did.
 pub fn unnamed(c: Capability, g: u8) -> Capability
     ensures { result ≡ unnamed_in g c }
 {
-    if c.target == g {
-        return Capability {
-            target: 0,
-            rights: 0,
-        };
-    }
-    c
+    if c.target == g { Capability::EMPTY } else { c }
 }
 
 // Who is left as the maker once nothing names g: nobody in its place.
 pub fn maker_left(maker: u8, g: u8) -> u8
     ensures { result ≡ maker_left g maker }
 {
-    if maker == g {
-        return 64;
-    }
-    maker
+    if maker == g { NOBODY } else { maker }
 }
 
 // The table with every one of its 512 slots so.
@@ -35,12 +26,8 @@ pub fn slots_forgotten(t: Table, g: u8) -> Table
     ensures { result ≡ slots_forgotten t g }
 {
     let mut u = t;
-    let mut k: usize = 0;
-    'slots: while k < 512 {
-        let c = u.slots[k];
-        let left = unnamed(c, g);
-        u.slots[k] = left;
-        k = k + 1;
+    'slots: for c in u.slots.iter_mut() {
+        *c = unnamed(*c, g);
     }
     u
 }
@@ -50,12 +37,8 @@ pub fn makers_forgotten(t: Table, g: u8) -> Table
     ensures { result ≡ makers_forgotten t g }
 {
     let mut u = t;
-    let mut n: usize = 0;
-    'makers: while n < 64 {
-        let old = u.records[n].maker;
-        let maker = maker_left(old, g);
-        u.records[n].maker = maker;
-        n = n + 1;
+    'makers: for r in u.records.iter_mut() {
+        r.maker = maker_left(r.maker, g);
     }
     u
 }

@@ -120,4 +120,4 @@ module _ (t : Table) (members : ℕ) (d : Sound t) where
 
 pub astray_member : (t : Table) (members outside : ℕ) (b a : Bool) → Sized t → b ≡ sound t → b ≡ true → outside ≡ born_outside t.records members
     → a ≡ held_astray t.slots outside → a ≡ member_held t members
-astray_member t members outside b a z s e o h = h ∙ ap (held_astray t.slots) o ∙ member_is t members (sound_facts t z (sym s ∙ e))
+astray_member t members among b a z s e o h = h ∙ ap (held_astray t.slots) o ∙ member_is t members (sound_facts t z (sym s ∙ e))

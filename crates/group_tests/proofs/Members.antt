@@ -2,9 +2,11 @@
 use mathlib.Core.Path.{◌≡◌, refl, sym, ◌∙◌, ap, subst⁻¹}
 use mathlib.Core.Bool.{Bool, true, false, not, ◌&&◌}
 use mathlib.Core.List.{List}
-use Prim.Native.Nat.{ℕ, ◌≤◌, ◌<◌}
+use Prim.Native.Nat.{ℕ, ◌+◌, ◌-◌, ◌*◌, ◌≤◌, ◌<◌}
 use native.Mathlib.Omega.{arith}
 use lib.Dec.{eqb}
+use lib.ListN.{get_or, take, drop}
+use Rattle.std.proofs.lemmas.List.{get_or-take, get_or-drop}
 use borrow.Author.Tests.{eqb-true}
 use Rattle.mask.specs.Sets.{has, excluding}
 use Rattle.mask.proofs.Tests.{by_cases, clash, and_true}
@@ -12,7 +14,7 @@ use Rattle.mask.proofs.Below.{any_intro, any_elim}
 use Rattle.mask.proofs.Bits.{has_zero}
 use Rattle.table.specs.declared.Capability.{Capability}
 use Rattle.table.specs.declared.Table.{Table}
-use Rattle.table.specs.Cells.{slot_at}
+use Rattle.table.specs.Cells.{empty_slot, slot_at}
 use Rattle.confinement.specs.Refusals.{all_listed, passes, bad_held}
 use Rattle.confinement.specs.Helpers.{slot_unlisted}
 use Rattle.sweeps.specs.Helpers.{Lowest}
@@ -26,6 +28,10 @@ plain_passes list c e = by_cases (eqb c.rights 4)
     (λ p. by_cases (eqb c.rights 0)
     (λ q. let z : c.rights ≡ 0 = eqb-true c.rights 0 q in rw z refl)
     (λ q. clash (rw (p, q) refl) e))
+
+-- slot j among the slots of n
+pub slice_slot : (t : Table) (n j : ℕ) → j < n * 8 + 8 - n * 8 → get_or (take (n * 8 + 8 - n * 8) (drop (n * 8) t.slots)) j empty_slot ≡ slot_at t n j
+slice_slot t n j h = get_or-take (n * 8 + 8 - n * 8) (drop (n * 8) t.slots) j empty_slot h ∙ get_or-drop (n * 8) t.slots j empty_slot
 
 module _ (t : Table) (members : ℕ) (list : List Capability) where
   -- slot j of n is one that row 12 turns down

@@ -19,7 +19,7 @@ use Rattle.table.proofs.SoundFacts.{sound_facts}
 use Rattle.table.proofs.Lists.{length_tabulate, get_d_tabulate, as_tabulate}
 use Rattle.relation.specs.Relation.{rd, wr, wk, tx, table_holding, right_at}
 use Rattle.relation.specs.Closure.{holds_strong, row_of}
-use Rattle.access.specs.declared.AccessReply.TheVariants.{Done}
+use Rattle.std.specs.Prelude.{Ok}
 use Rattle.relation.proofs.Tables.{takes_part_lem}
 use Rattle.access.specs.Answers.{born_outside, access_of}
 use Rattle.access.proofs.TableWords.{outside_intro}
@@ -104,9 +104,9 @@ module _ (t : Table) (n : ℕ) (js ws gs ls : List ℕ) (p : Worked t n js ws gs
   row k (suc (suc (suc (suc q)))) e h = absurd (omega (arith, e))
 
   pub access_done : (b : Bool) (led rows : List ℕ) → b ≡ sound t → b ≡ true → led ≡ led_words (word_edge ls) n → rows ≡ laid_out gs led
-      → record { reply = Done; rows = rows } ≡ access_of t
+      → Ok rows ≡ access_of t
   unfolding access_of laid_out
   access_done b led rows s e f g =
       let z : rows ≡ laid_out (G t) (led_words (word_edge (L t)) (N t)) = g ∙ rw (f, groups_are, links_are, p.born) refl in
-      rw (sym s ∙ e, access_of) (ap (λ (r : List ℕ). record { reply = Done; rows = r }) (z ∙ as_tabulate 256 _ 0 _ (length_tabulate 256 _)
+      rw (sym s ∙ e, access_of) (ap (λ (r : List ℕ). Ok r) (z ∙ as_tabulate 256 _ 0 _ (length_tabulate 256 _)
       (λ k h. get_d_tabulate 256 _ k 0 h ∙ row k (k / 64) refl h)))

@@ -15,7 +15,7 @@ use Rattle.relation.specs.Exactness.{Low}
 use Rattle.relation.proofs.Reach.{Path, stay, step, turn, reached_lt, reached_path, path_reached}
 use Rattle.relation.proofs.Exact.{part_facts, link_part, edge_low, links_can, means, row_can, can_row, row_lt, table_low}
 use Rattle.access.proofs.Marks.{has_low}
-use Rattle.access.specs.declared.AccessReply.TheVariants.{Done}
+use Rattle.std.specs.Prelude.{Ok}
 use Rattle.access.specs.Answers.{access_of}
 use Rattle.groups.specs.Groups.{group_of, leads_to, outside_leads_to, has_by_groups, row_by_groups}
 use Rattle.groups.specs.Answers.{access_by_groups}
@@ -147,7 +147,7 @@ same_rows = rows
 pub same_access : SameAccess
 unfolding SameAccess access_by_groups access_of
 same_access t = by_cases (sound t)
-    (λ e. rw (e, access_by_groups, access_of) (ap (λ (r : List ℕ). record { reply = Done; rows = r }) (as_tabulate 256 _ 0 _ (length_tabulate 256 _)
+    (λ e. rw (e, access_by_groups, access_of) (ap (λ (r : List ℕ). Ok r) (as_tabulate 256 _ 0 _ (length_tabulate 256 _)
     (λ k h. get_d_tabulate 256 _ k 0 h ∙ rows (table_holding t) (table_low t) (right_at (k / 64)) (k % 64)))))
     (λ e. rw (e, access_by_groups, access_of) refl)
 

@@ -6,7 +6,7 @@ ghost use Rattle.std.specs.Prelude.{◌≡◌};
 ghost use Rattle.access.specs.Answers.{access_of};
 ghost use Rattle.groups.specs.Helpers.{laid_out};
 
-use access::{Access, AccessReply};
+use access::AccessRefusal;
 use table::Table;
 
 // The rows of the answer: all four rights over the group, wk over whom links lead to.
@@ -14,42 +14,30 @@ fn laid_out(groups: &[u64; 64], led: &[u64; 64]) -> [u64; 256]
     ensures { result ≡ laid_out groups.now led.now }
 {
     let mut r = [0u64; 256];
-    let mut x: usize = 0;
-    while x < 64 {
-        let group = groups[x];
-        let over = led[x];
-        r[x] = group;
-        r[64 + x] = group;
-        r[128 + x] = over;
-        r[192 + x] = group;
-        x = x + 1;
+    for (x, group) in groups.iter().enumerate() {
+        r[x] = *group;
+        r[64 + x] = *group;
+        r[128 + x] = led[x];
+        r[192 + x] = *group;
     }
     r
 }
 
-// The whole relation of a sound table; for any other the number 1 and no rights.
-pub fn potential_access(t: Table) -> Access
+// The whole relation of a sound table.
+pub fn potential_access(t: Table) -> Result<[u64; 256], AccessRefusal>
     ensures { result ≡ access_of t }
 {
     if !table::is_sound(t) {
-        return Access {
-            reply: AccessReply::TableUnsound,
-            rows: [0; 256],
-        };
+        return Err(AccessRefusal::TableUnsound);
     }
-    let records = t.records;
-    let slots = t.slots;
-    let born = access::start::born_outside(records, 0);
+    let born = access::start::born_outside(t.records, 0);
     let mut joins = [0u64; 64];
     let mut over = [0u64; 64];
-    held::held_words(slots, born, false, &mut joins, &mut over);
+    held::held_words(t.slots, born, false, &mut joins, &mut over);
     let mut groups = [0u64; 64];
     let mut links = [0u64; 64];
     let leading = leads::group_words(&joins, &over, born, &mut groups, &mut links);
     let led = leads::led_words(&groups, &links, born, leading);
     let rows = laid_out(&groups, &led);
-    Access {
-        reply: AccessReply::Done,
-        rows: rows,
-    }
+    Ok(rows)
 }

@@ -1,14 +1,17 @@
--- The loops that read a table: what has been read when n records and k slots are in place. Both stand in number order, so each
--- store is the next of its list. What the record reader of both versions puts together stands first. Assumes nothing.
+-- The loop that reads a table: what has been read when n records and k slots are in place. Both stand in number order, so what is stored
+-- comes next in its list. What the record reader of both versions puts together stands first. Assumes nothing.
 use mathlib.Core.Path.{◌≡◌, refl, sym, ◌∙◌, ap, ap₂}
-use mathlib.Core.List.{List}
-use Prim.Native.Nat.{ℕ, ◌+◌, ◌-◌, ◌*◌, ◌/◌, ◌%◌, ◌^◌, ◌≤◌, ◌<◌}
+use mathlib.Core.List.{List, [], ◌∷◌, ◌++◌, append_assoc, append-nil}
+use Prim.Native.Nat.{ℕ, zero, suc, ◌+◌, ◌-◌, ◌*◌, ◌/◌, ◌%◌, ◌^◌, ◌≤◌, ◌<◌}
+use native.Mathlib.Nat.{add-zero}
 use native.Mathlib.Omega.{arith}
-use lib.ListN.{length, get_or, take, drop, length-set, length-take, length-drop}
+use lib.ListN.{length, set, take, drop, length-set, length-append, length-take, length-drop, take-append-drop}
+use lib.Seq.{length-take-le, take_at}
+use borrow.Rule.Slice.PartMut.{put_mid}
 use Rattle.table.specs.declared.Capability.{Capability}
 use Rattle.table.specs.declared.Record.{Record}
 use Rattle.table.specs.declared.Table.{Table}
-use Rattle.table.specs.Cells.{unborn_table, put_record, put_slot, empty_slot}
+use Rattle.table.specs.Cells.{unborn_table, empty_slot}
 use Rattle.table.specs.Lists.{tabulate}
 use Rattle.image.specs.declared.Stored.{Stored}
 use Rattle.octets.specs.BigEndian.{Bytes, byte_at, number_of}
@@ -16,9 +19,9 @@ use Rattle.image.specs.declared.Version.{Version}
 use Rattle.image.specs.Layout.{record_length, part_of, record_with, record_from, slot_from, stored_with, stored_from, table_from}
 use Rattle.octets.proofs.BigEndian.{number_from_lem, number_append, number_lt}
 use Rattle.octets.proofs.Parts.{bytes_take, bytes_drop}
-use Rattle.table.proofs.Lists.{get_d_tabulate}
+use Rattle.table.proofs.Lists.{length_tabulate, get_d_tabulate, tabulate_snoc, as_tabulate}
 use Rattle.table.proofs.Cells.{tables_same}
-use Rattle.octets.proofs.Lists.{filled_none, filled_more, filled_all}
+use Rattle.octets.proofs.Lists.{filled_none, filled_more, filled_all, lent_next}
 use Rattle.image.proofs.Fields.{take_two}
 
 -- the record reader -----------------------------------------------------------------------
@@ -45,6 +48,20 @@ pub stored_made : (part : List ℕ) (maker w h k : ℕ) (slots : List Capability
     ≡ stored_with part maker
 unfolding stored_with record_with
 stored_made part maker w h k slots l e f g s = rw (e, f, g, s, eight_halves part (omega arith)) refl
+
+-- tabulated lists -----------------------------------------------------------------------------
+module _ {A : Type 0} where
+  tabulate_same : (n : ℕ) (f g : ℕ → A) (d : A) → ((k : ℕ) → k < n → f k ≡ g k) → tabulate n f ≡ tabulate n g
+  tabulate_same n f g d h = as_tabulate n g d (tabulate n f) (length_tabulate n f) (λ k b. get_d_tabulate n f k d b ∙ h k b)
+
+  tabulate_add : (n k : ℕ) (f : ℕ → A) → tabulate (n + k) f ≡ tabulate n f ++ tabulate k (λ i. f (n + i))
+  unfolding tabulate
+  tabulate_add n zero f = rw (add-zero, append-nil) refl
+  tabulate_add n (suc k) f =
+      let g : ℕ → A = λ i. f (n + i) in
+      let e : n + suc k ≡ suc (n + k) = omega arith in
+      ap (λ (m : ℕ). tabulate m f) e ∙ tabulate_snoc (n + k) f ∙ ap (λ (x : List A). x ++ (f (n + k) ∷ [])) (tabulate_add n k f)
+      ∙ append_assoc (tabulate n f) (tabulate k g) (f (n + k) ∷ []) ∙ ap (λ (x : List A). tabulate n f ++ x) (sym (tabulate_snoc k g))
 
 -- the table's lists, in any version ----------------------------------------------------------
 abbrev pub record_of : Version → List ℕ → ℕ → Record
@@ -76,27 +93,28 @@ module _ (v : Version) (bytes : List ℕ) where
   unfolding unborn_table
   read_none t e = rw e (record { long = refl; wide = refl; records = filled_none (record_of v bytes); slots = filled_none (slot_of v bytes) })
 
-  pub record_more : (t : Table) (n k : ℕ) (s : Stored) → n < 64 → s ≡ stored_from v (part_of v bytes n) → ReadTo v bytes t n k
-      → ReadTo v bytes (put_record t n s.object) (n + 1) k
+  -- record n and its eight slots come next; `ys` is what was copied in
+  pub record_more : (t : Table) (n : ℕ) (s : Stored) (ys : List Capability) → n < 64 → s ≡ stored_from v (part_of v bytes n) → ys ≡ s.slots → ReadTo v bytes t n (n * 8)
+      → ReadTo v bytes (record { records = set t.records n s.object; slots = put_mid (n * 8) (n * 8 + 8 - n * 8) t.slots ys }) (n + 1) ((n + 1) * 8)
   unfolding stored_with
-  record_more t n k s h e r = record {
-    long = length-set t.records n _ ∙ r.long;
-    wide = r.wide;
-    records = filled_more n (record_of v bytes) t.records s.object (omega (arith, r.long)) r.records (ap (λ (x : Stored). x.object) e);
-    slots = r.slots;
-  }
-
-  pub slot_more : (t : Table) (m n j : ℕ) (s : Stored) → n < 64 → j < 8 → s ≡ stored_from v (part_of v bytes n) → ReadTo v bytes t m (n * 8 + j)
-      → ReadTo v bytes (put_slot t n j (get_or s.slots j empty_slot)) m (n * 8 + (j + 1))
-  unfolding stored_with
-  slot_more t m n j s h g e r =
-      let f : n * 8 + j + 1 ≡ n * 8 + (j + 1) = omega arith in
+  record_more t n s ys h e f r =
+      let a = n * 8 in
+      let k = n * 8 + 8 - n * 8 in
+      let p = take a t.slots in
+      let rest = drop k (drop a t.slots) in
+      let w = r.wide in
+      let g = f ∙ ap (λ (x : Stored). x.slots) e in
+      let l : length ys ≡ 8 = ap length g ∙ length_tabulate 8 (slot_from (part_of v bytes n)) in
+      let m : length p ≡ a = length-take-le a t.slots (omega arith) in
+      let z : length (p ++ ys) ≡ (n + 1) * 8 = omega (arith, length-append p ys) in
+      let q : a + 8 ≡ (n + 1) * 8 = omega arith in
       record {
-        long = r.long;
-        wide = length-set t.slots (n * 8 + j) _ ∙ r.wide;
-        records = r.records;
-        slots = rw f at (filled_more (n * 8 + j) (slot_of v bytes) t.slots (get_or s.slots j empty_slot) (omega (arith, r.wide)) r.slots
-            (ap (λ (x : Stored). get_or x.slots j empty_slot) e ∙ get_d_tabulate 8 _ j empty_slot g ∙ sym (slot_place n j g)));
+        long = length-set t.records n _ ∙ r.long;
+        wide = length-append p (ys ++ rest) ∙ omega (arith, length-append ys rest, length-drop k (drop a t.slots), length-drop a t.slots);
+        records = filled_more n (record_of v bytes) t.records s.object (omega (arith, r.long)) r.records (ap (λ (x : Stored). x.object) e);
+        slots = ap (take ((n + 1) * 8)) (lent_next p t.slots t.slots ys a k m (sym (take-append-drop a t.slots)))
+            ∙ take_at (p ++ ys) (drop (a + k) t.slots) ((n + 1) * 8) z ∙ ap₂ (λ (x y : List Capability). x ++ y) r.slots (g ∙ tabulate_same 8 _ _ empty_slot (λ j b. sym (slot_place n j b)))
+            ∙ sym (tabulate_add a 8 (slot_of v bytes)) ∙ ap (λ (i : ℕ). tabulate i (slot_of v bytes)) q;
       }
 
   pub read_all : (t : Table) (n k : ℕ) → n ≡ 64 → k ≡ 512 → ReadTo v bytes t n k → t ≡ table_from v bytes

@@ -1,21 +1,23 @@
 -- Where things stand in an image of any version: what the head says, the lengths of the pieces, and the part of each record.
 -- Assumes nothing.
 use mathlib.Core.Path.{◌≡◌, refl, sym, ◌∙◌, ap, ap₂}
-use mathlib.Core.Bool.{Bool, true, false, not, ◌&&◌}
+use mathlib.Core.Bool.{true, false}
 use mathlib.Core.Logic.{◌≢◌}
 use mathlib.Core.List.{List, [], ◌∷◌, ◌++◌}
 use Prim.Native.Nat.{ℕ, zero, suc, ◌+◌, ◌*◌, ◌^◌, ◌≤◌, ◌<◌}
 use native.Mathlib.Nat.{mul-suc, mul-le-mul_left}
 use native.Mathlib.Omega.{arith}
-use lib.Dec.{eqb}
 use lib.ListN.{length, take, drop, length-append, length-take, length-drop}
-use lib.Seq.{length-take-le, take_all, take-suc, drop_at, drop-drop, take-append-le, drop-append-le, get_or-take}
-use borrow.Author.Tests.{eqb-true, eq-eqb, not-true, not-false}
-use Rattle.mask.proofs.Tests.{by_eq, clash, and_true, and_intro}
+use Rattle.std.proofs.lemmas.List.{take-take}
+use lib.Seq.{length-take-le, take_all, take-suc, drop_at, drop-drop, take-append-le, drop-append-le}
+use Rattle.std.specs.Prelude.{nat_eq}
+use Rattle.std.specs.List.{starts_with}
+use Rattle.std.specs.Cmp.Lexicographic.{same_text, other_text}
+use Rattle.mask.proofs.Tests.{by_eq}
 use Rattle.table.specs.declared.Table.{Table}
 use Rattle.octets.specs.BigEndian.{Bytes, byte_at, bytes_of, number_of}
 use Rattle.octets.proofs.BigEndian.{number_written, bytes_read}
-use Rattle.octets.proofs.Parts.{number_two, bytes_drop, bytes_take}
+use Rattle.octets.proofs.Parts.{bytes_drop, bytes_take}
 use Rattle.image.specs.declared.Version.{Version}
 use Rattle.image.specs.declared.Version.TheVariants.{One, Two}
 use Rattle.image.specs.Layout.{head, version_byte, record_length, image_length, place_of, stored_at, stored_bytes, records_bytes, image_of, part_of}
@@ -64,27 +66,23 @@ module _ (v : Version) (bytes : List ℕ) where
   first_two : Bytes bytes → 2 ≤ length bytes → number_of (take 2 bytes) ≡ image_length v → take 2 bytes ≡ take 2 (head v)
   first_two b h e = sym (bytes_read (take 2 bytes) 2 (length-take-le 2 bytes h) (bytes_take 2 bytes b)) ∙ ap (bytes_of 2) e ∙ sym (head_two v)
 
-  head_byte : Bytes bytes → 2 ≤ length bytes → number_of (take 2 bytes) ≡ image_length v → (i : ℕ) → i < 2 → byte_at bytes i ≡ byte_at (head v) i
-  head_byte b h e i g = sym (get_or-take 2 bytes i 0 g) ∙ ap (λ (l : List ℕ). byte_at l i) (first_two b h e) ∙ get_or-take 2 (head v) i 0 g
-
   pub head_read : Bytes bytes → 3 ≤ length bytes → number_of (take 2 bytes) ≡ image_length v → byte_at bytes 2 ≡ version_byte v → take 3 bytes ≡ head v
   head_read b h e f =
       take-suc bytes 2 0 h ∙ ap₂ (λ (p : List ℕ) (x : ℕ). p ++ (x ∷ [])) (first_two b (omega arith) e ∙ head_two v) f ∙ sym (head_says v)
 
-  -- the head's first two bytes say the length, and no other two do; `begins` is the head
-  abbrev same_field : List ℕ → Bool
-  same_field begins = eqb (byte_at bytes 0) (byte_at begins 0) && eqb (byte_at bytes 1) (byte_at begins 1)
+  -- bytes that begin with the head say the length, and no others do; `begins` is the head
+  module _ (begins : List ℕ) (q : begins ≡ head v) where
+    three : length begins ≡ 3
+    three = ap length q ∙ length_head v
 
-  pub field_right : (begins : List ℕ) → begins ≡ head v → 2 ≤ length bytes → not (same_field begins) ≡ false → number_of (take 2 bytes) ≡ image_length v
-  field_right begins q h e =
-      let p = and_true _ _ (not-false _ (ap (λ (l : List ℕ). not (same_field l)) (sym q) ∙ e)) in
-      number_two bytes h ∙ ap₂ (λ (x y : ℕ). x * 256 + y) (eqb-true _ _ p.0) (eqb-true _ _ p.1)
-      ∙ sym (number_two (head v) (omega (arith, length_head v))) ∙ head_length v
+    pub starts_right : starts_with nat_eq bytes begins ≡ true → number_of (take 2 bytes) ≡ image_length v
+    starts_right e =
+        let same : head v ≡ take 3 bytes = sym q ∙ same_text begins (take (length begins) bytes) (sym e) ∙ ap (λ (k : ℕ). take k bytes) three in
+        ap number_of (sym (take-take 2 3 bytes (omega arith)) ∙ ap (take 2) (sym same)) ∙ head_length v
 
-  pub field_wrong : (begins : List ℕ) → begins ≡ head v → Bytes bytes → 2 ≤ length bytes → not (same_field begins) ≡ true → number_of (take 2 bytes) ≢ image_length v
-  field_wrong begins p b h e q =
-      let at = head_byte b h q in
-      clash (and_intro _ _ (eq-eqb _ _ (at 0 (omega arith))) (eq-eqb _ _ (at 1 (omega arith)))) (not-true _ (ap (λ (l : List ℕ). not (same_field l)) (sym p) ∙ e))
+    pub starts_wrong : Bytes bytes → 3 ≤ length bytes → byte_at bytes 2 ≡ version_byte v → starts_with nat_eq bytes begins ≡ false → number_of (take 2 bytes) ≢ image_length v
+    starts_wrong b h f e n =
+        other_text begins (take (length begins) bytes) (sym e) (q ∙ sym (head_read b h n f) ∙ ap (λ (k : ℕ). take k bytes) (sym three))
 
 -- lengths ------------------------------------------------------------------------------
 pub length_records : (v : Version) (t : Table) (n : ℕ) → length (records_bytes v t n) ≡ record_length v * n

@@ -1,22 +1,25 @@
 -- A table that is read from bytes is a table value, whatever the bytes say: each field is a number of as many bytes as its bits
 -- hold. So the table that reading returns is one, refused or not. Assumes nothing.
+use mathlib.Core.Path.{◌≡◌, refl}
 use mathlib.Core.List.{List}
 use Prim.Native.Nat.{ℕ, ◌+◌, ◌*◌, ◌/◌, ◌%◌, ◌^◌, ◌<◌}
 use native.Mathlib.Omega.{arith}
-use lib.Dec.{eqb}
 use lib.ListN.{get_or, drop}
-use Rattle.mask.proofs.Tests.{by_cases}
-use Rattle.table.specs.Cells.{IsTable, empty_slot, no_record}
+use Rattle.std.specs.Prelude.{Ok, Err}
+use Rattle.std.specs.Result.{result_unwrap_or}
+use Rattle.table.specs.declared.Table.{Table}
+use Rattle.table.specs.Cells.{IsTable, empty_slot, no_record, unborn_table}
 use Rattle.table.proofs.Lists.{length_tabulate}
 use Rattle.table.proofs.Places.{at_tabulate}
 use Rattle.table.proofs.Value.{RecordValue, SlotValue, record-value, slot_value, none_value, empty_value, values_are_table, unborn_is_table}
 use Rattle.image.specs.declared.Version.{Version}
 use Rattle.image.specs.declared.Version.TheVariants.{One, Two}
 use Rattle.image.specs.Layout.{part_of, maker_from, record_with, record_from, slot_from, table_from}
-use Rattle.image.specs.Images.{read_number, version_of, read_refusal, read_of}
+use Rattle.image.specs.Images.{read_of}
 use Rattle.octets.specs.BigEndian.{Bytes}
 use Rattle.octets.proofs.Parts.{bytes_drop, number_take}
 use Rattle.image.proofs.Places.{bytes_part}
+use Rattle.image.proofs.Replies.{ReadBy, read_by, accepted_by}
 
 maker_typed : (v : Version) (part : List ℕ) → Bytes part → maker_from v part < 2 ^ 8
 maker_typed One part b = omega arith
@@ -38,8 +41,11 @@ image_is_table v bytes b = values_are_table (table_from v bytes) (length_tabulat
     (λ n. at_tabulate RecordValue no_record 64 _ n (record-typed v (part_of v bytes n) (bytes_part v bytes n b)) none_value)
     (λ k. at_tabulate SlotValue empty_slot 512 _ k (slot_typed (part_of v bytes (k / 8)) (k % 8) (bytes_part v bytes (k / 8) b)) empty_value)
 
-pub read_is_table : (bytes : List ℕ) → ((k : ℕ) → get_or bytes k 0 < 2 ^ 8) → IsTable (read_of bytes).table
-unfolding read_of
-read_is_table bytes b = by_cases (eqb (read_number (read_refusal bytes)) 0)
-    (λ e. rw (e, read_of) (image_is_table (version_of bytes) bytes b))
-    (λ e. rw (e, read_of) unborn_is_table)
+pub read_is_table : (bytes : List ℕ) → ((k : ℕ) → get_or bytes k 0 < 2 ^ 8) → IsTable (result_unwrap_or (read_of bytes) unborn_table)
+read_is_table bytes b = elim (read_of bytes) as (λ r. read_of bytes ≡ r → IsTable (result_unwrap_or r unborn_table)) [
+  | Err why ↦ λ e. unborn_is_table
+  | Ok t ↦ λ e. of_version t (accepted_by bytes t e)
+] refl
+  where
+    of_version : (t : Table) → ReadBy bytes t → IsTable t
+    of_version t (read_by v a q) = rw q (image_is_table v bytes b)

@@ -3,15 +3,16 @@
 // an image is checked for.
 #![tactic(auto)]
 
-ghost use Rattle.std.specs.Prelude.{◌≡◌, ◌≤◌, eqb, length};
+ghost use Rattle.std.specs.Prelude.{◌≡◌, ◌≤◌, length, ok_or};
 ghost use Rattle.table.specs.Lists.{tabulate};
 ghost use Rattle.image.specs.Layout.{head as head_of, record_length, image_length, slot_from, maker_from, stored_with, stored_from, table_from};
-ghost use Rattle.image.specs.Images.{read_number, version_as, head_refusal, refused_read, read_of};
+ghost use Rattle.image.specs.declared.ReadRefusal.TheVariants.{VersionWrong};
+ghost use Rattle.image.specs.Images.{version_as, head_refusal, read_of};
 
 use table::{Capability, Record, Table};
 
 // The versions of the layout.
-#[derive(Clone, Copy)]
+#[derive(Debug, Clone, Copy, PartialEq, Eq)]
 pub enum Version {
     One,
     Two,
@@ -23,20 +24,27 @@ pub const HEAD_ONE: [u8; 3] = [0x07, 0x83, 0x01];
 // And of version 2: length 1,987, version 2.
 pub const HEAD_TWO: [u8; 3] = [0x07, 0xC3, 0x02];
 
-// Done, or why an image was not read.
-#[derive(Clone, Copy)]
-pub enum ReadReply {
-    Done,
+// Why an image was not read.
+#[derive(Debug, Clone, Copy, PartialEq, Eq)]
+pub enum ReadRefusal {
     TableUnsound,
     LengthWrong,
     VersionWrong,
 }
 
-// What reading gives: on every refusal the wholly unborn table.
-#[derive(Clone, Copy)]
-pub struct Loaded {
-    pub reply: ReadReply,
-    pub table: Table,
+// The version that a version byte says, if it says one.
+impl TryFrom<u8> for Version {
+    type Error = ReadRefusal;
+
+    ghost try_from_gives = { λ byte r. r ≡ ok_or (version_as byte) VersionWrong };
+
+    fn try_from(byte: u8) -> Result<Version, ReadRefusal> {
+        match byte {
+            1 => Ok(Version::One),
+            2 => Ok(Version::Two),
+            _ => Err(ReadRefusal::VersionWrong),
+        }
+    }
 }
 
 // An object with its eight slots, as one record of the image.
@@ -81,18 +89,13 @@ fn read_slots(part: &[u8]) -> [Capability; 8]
     requires { 30 ≤ length part.now }
     ensures { result ≡ tabulate 8 (slot_from part.now) }
 {
-    let nothing = Capability {
-        target: 0,
-        rights: 0,
-    };
+    let nothing = Capability::EMPTY;
     let mut slots = [nothing; 8];
-    let mut j: usize = 0;
-    while j < 8 {
-        slots[j] = Capability {
+    for (j, slot) in slots.iter_mut().enumerate() {
+        *slot = Capability {
             target: part[14 + 2 * j],
             rights: part[15 + 2 * j],
         };
-        j = j + 1;
     }
     slots
 }
@@ -148,94 +151,38 @@ fn read_table(image: &[u8], v: Version) -> Table
 {
     let long = record_length(v);
     let mut t = table::unborn_table();
-    let mut n: usize = 0;
-    'records: while n < 64 {
+    'records: for n in 0..64 {
         let at = 3 + long * n;
         let stored = read_record(&image[at..at + long], v);
-        let object = stored.object;
-        t.records[n] = object;
-        let slots = stored.slots;
-        let mut j: usize = 0;
-        'slots: while j < 8 {
-            t.slots[n * 8 + j] = slots[j];
-            j = j + 1;
-        }
-        n = n + 1;
+        t.records[n] = stored.object;
+        t.slots[n * 8..n * 8 + 8].copy_from_slice(&stored.slots);
     }
     t
 }
 
-// What a refused read gives back.
-fn not_read(reply: ReadReply) -> Loaded
-    ensures { result ≡ refused_read reply }
-{
-    let t = table::unborn_table();
-    Loaded {
-        reply: reply,
-        table: t,
-    }
-}
-
-// The version that a version byte says, if it says one.
-pub fn version_in(byte: u8) -> Version
-    ensures { result ≡ version_as byte }
-{
-    if byte == HEAD_TWO[2] {
-        return Version::Two;
-    }
-    Version::One
-}
-
-// What the head is refused for: 14 below three bytes, 15 for a version byte that is neither 1 nor 2, then 14 for another length than the
-// version's own.
-pub fn head_reply(image: &[u8]) -> ReadReply
+// The version of an image, or what its head is refused for: 14 below three bytes, 15 for a version byte that is neither 1 nor 2, then 14
+// for another length than the version's own.
+pub fn head_reply(image: &[u8]) -> Result<Version, ReadRefusal>
     ensures { result ≡ head_refusal image.now }
 {
     if image.len() < 3 {
-        return ReadReply::LengthWrong;
+        return Err(ReadRefusal::LengthWrong);
     }
-    let byte = image[2];
-    if !((byte == HEAD_ONE[2]) | (byte == HEAD_TWO[2])) {
-        return ReadReply::VersionWrong;
+    let v = Version::try_from(image[2])?;
+    if image.len() != image_length(v) || !image.starts_with(&head(v)) {
+        return Err(ReadRefusal::LengthWrong);
     }
-    let v = version_in(byte);
-    if image.len() != image_length(v) {
-        return ReadReply::LengthWrong;
-    }
-    let begins = head(v);
-    if !((image[0] == begins[0]) & (image[1] == begins[1])) {
-        return ReadReply::LengthWrong;
-    }
-    ReadReply::Done
-}
-
-// Is it Done?
-fn is_done(reply: ReadReply) -> bool
-    ensures { result ≡ eqb (read_number reply) 0 }
-{
-    match reply {
-        ReadReply::Done => true,
-        ReadReply::TableUnsound => false,
-        ReadReply::LengthWrong => false,
-        ReadReply::VersionWrong => false,
-    }
+    Ok(v)
 }
 
 // Reads an image of either version: what its head is refused for, then 1 for a table that is not sound.
-pub fn read(image: &[u8]) -> Loaded
+pub fn read(image: &[u8]) -> Result<Table, ReadRefusal>
     ensures { result ≡ read_of image.now }
 {
-    let why = head_reply(image);
-    if !is_done(why) {
-        return not_read(why);
-    }
-    let v = version_in(image[2]);
+    let v = head_reply(image)?;
     let found = read_table(image, v);
     if !table::is_sound(found) {
-        return not_read(ReadReply::TableUnsound);
+        return Err(ReadRefusal::TableUnsound);
     }
-    Loaded {
-        reply: ReadReply::Done,
-        table: found,
-    }
+    Ok(found)
 }

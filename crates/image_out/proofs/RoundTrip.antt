@@ -10,6 +10,7 @@ use native.Mathlib.Omega.{arith}
 use lib.ListN.{length, get_or, take, drop, take-append-drop, length-drop, drop_of_length-le}
 use lib.Seq.{take_all, take_at, take-add, drop-drop}
 use borrow.Author.Tests.{eq-eqb}
+use Rattle.std.specs.Prelude.{Ok}
 use Rattle.mask.specs.Sets.{any_below}
 use Rattle.mask.proofs.Tests.{by_cases, clash}
 use Rattle.mask.proofs.Below.{any_none, any_elim}
@@ -19,12 +20,10 @@ use Rattle.table.specs.declared.Table.{Table}
 use Rattle.table.specs.Cells.{IsTable, no_maker, no_record, maker_at, slot_at, empty_slot}
 use Rattle.table.specs.Lists.{tabulate}
 use Rattle.table.specs.Soundness.{sound}
-use Rattle.image.specs.declared.Loaded.{Loaded}
-use Rattle.image.specs.declared.ReadReply.TheVariants as R
 use Rattle.image.specs.declared.Version.{Version}
 use Rattle.image.specs.declared.Version.TheVariants.{One, Two}
 use Rattle.image.specs.Layout.{record_length, image_length, stored_at, stored_bytes, records_bytes, image_of, maker_lost, part_of, record_with, record_from, slot_from, stored_with, stored_from, table_from}
-use Rattle.image.specs.Images.{read_number, read_of}
+use Rattle.image.specs.Images.{read_of}
 use Rattle.image_out.specs.Written.{some_lost, filled_by, written_of}
 use Rattle.image_out.specs.Exactness.{IsRead, Unmade, TwoReadsBack, OneReadsBack, WritesBack, MovesUp, MovesBack, StoredAs, stored_as, ReadsExactly, DecidesBytes}
 use Rattle.octets.specs.BigEndian.{Bytes}
@@ -38,9 +37,6 @@ use Rattle.image_out.proofs.Left.{write_done, written_done}
 use Rattle.octets.proofs.Parts.{beside}
 use Rattle.image.proofs.Fields.{record-stored, slot_stored, stored_part}
 use Rattle.image.proofs.Places.{says_image, versed_image, head_read, length_image, part_image, length_part, bytes_part}
-
-abbrev done : Table → Loaded
-done t = record { reply = R.Done; table = t }
 
 -- reading what was written ---------------------------------------------------------------
 module _ (v : Version) (t : Table) (z : IsTable t) (kept : some_lost v t ≡ false) where
@@ -61,8 +57,8 @@ module _ (v : Version) (t : Table) (z : IsTable t) (kept : some_lost v t ≡ fal
     image_accepted : Accepted v (image_of v t)
     image_accepted = record { long = length_image v t; says = says_image v t; versed = versed_image v t; fine = ap sound table_image ∙ e }
 
-    read_image : read_of (image_of v t) ≡ done t
-    read_image = read_done v (image_of v t) image_accepted ∙ ap done table_image
+    read_image : read_of (image_of v t) ≡ Ok t
+    read_image = read_done v (image_of v t) image_accepted ∙ ap Ok table_image
 
     written : (buffer : List ℕ) → image_length v ≤ length buffer → written_of v t buffer ≡ filled_by v t buffer
     written buffer h = written_done v t buffer (write_done v t buffer e kept h)
@@ -72,7 +68,7 @@ module _ (v : Version) (t : Table) (z : IsTable t) (kept : some_lost v t ≡ fal
     written_exact buffer h = written buffer (omega arith) ∙ ap (λ (r : List ℕ). image_of v t ++ r) (drop_of_length-le buffer {i = image_length v} (omega arith))
         ∙ append-nil (image_of v t)
 
-    pub reads_back : (buffer : List ℕ) → image_length v ≤ length buffer → read_of (take (image_length v) (written_of v t buffer)) ≡ done t
+    pub reads_back : (buffer : List ℕ) → image_length v ≤ length buffer → read_of (take (image_length v) (written_of v t buffer)) ≡ Ok t
     reads_back buffer h = ap read_of (ap (take (image_length v)) (written buffer h) ∙ take_at (image_of v t) _ (image_length v) (length_image v t)) ∙ read_image
 
 -- version 2 has a place for every maker; version 1 for 64 alone
@@ -133,14 +129,14 @@ module _ (v : Version) (bytes : List ℕ) (all : Bytes bytes) (a : Accepted v by
       ∙ take-append-drop 3 bytes
 
 -- of bytes that are read as an image of the version
-module _ (v : Version) (bytes : List ℕ) (r : IsRead v bytes) where
+module _ (v : Version) (bytes : List ℕ) (t : Table) (r : IsRead v bytes t) where
   was : Accepted v bytes
-  was = accepted v bytes r.versed r.done
+  was = accepted v bytes t r.versed r.done
 
-  table_is : (read_of bytes).table ≡ table_from v bytes
-  table_is = ap (λ (l : Loaded). l.table) (read_done v bytes was)
+  table_is : t ≡ table_from v bytes
+  table_is = let z : Ok t ≡ Ok (table_from v bytes) = sym r.done ∙ read_done v bytes was in cc
 
-  image_of_read : image_of v (read_of bytes).table ≡ bytes
+  image_of_read : image_of v t ≡ bytes
   image_of_read = ap (image_of v) table_is ∙ image_is v bytes r.bits was
 
 -- the claims --------------------------------------------------------------------------------
@@ -154,46 +150,49 @@ one_reads_back t z e u buffer h = reads_back One t z (none_lost_one t u) e buffe
 
 pub writes_back : (v : Version) → WritesBack v
 unfolding WritesBack
-writes_back v bytes r buffer h =
-    let a = was v bytes r in
-    ap (λ (t : Table). written_of v t buffer) (table_is v bytes r)
+writes_back v bytes t r buffer h =
+    let a = was v bytes t r in
+    ap (λ (u : Table). written_of v u buffer) (table_is v bytes t r)
     ∙ written v (table_from v bytes) (image_is_table v bytes r.bits) (none_lost v bytes) a.fine buffer h
     ∙ ap (λ (x : List ℕ). x ++ drop (image_length v) buffer) (image_is v bytes r.bits a)
 
 -- the table of a version 1 image, moved up
-module _ (bytes : List ℕ) (r : IsRead One bytes) (buffer : List ℕ) (h : length buffer ≡ image_length Two) where
-  up : read_of (written_of Two (read_of bytes).table buffer) ≡ read_of bytes
+module _ (bytes : List ℕ) (t : Table) (r : IsRead One bytes t) (buffer : List ℕ) (h : length buffer ≡ image_length Two) where
+  up : read_of (written_of Two t buffer) ≡ Ok t
   up =
-      let t = table_from One bytes in
+      let u = table_from One bytes in
       let z = image_is_table One bytes r.bits in
-      let a = was One bytes r in
-      ap (λ (u : Table). read_of (written_of Two u buffer)) (table_is One bytes r) ∙ ap read_of (written_exact Two t z (none_lost_two t) a.fine buffer h)
-      ∙ read_image Two t z (none_lost_two t) a.fine ∙ sym (read_done One bytes a)
+      let a = was One bytes t r in
+      ap (λ (x : Table). read_of (written_of Two x buffer)) (table_is One bytes t r) ∙ ap read_of (written_exact Two u z (none_lost_two u) a.fine buffer h)
+      ∙ read_image Two u z (none_lost_two u) a.fine ∙ ap Ok (sym (table_is One bytes t r))
 
 pub moves_up : MovesUp
 unfolding MovesUp
-moves_up bytes r buffer h = (λ n k. ap (λ (t : Table). maker_at t n) (table_is One bytes r) ∙ one_unmade bytes n k, up bytes r buffer h)
+moves_up bytes t r buffer h = (λ n k. ap (λ (u : Table). maker_at u n) (table_is One bytes t r) ∙ one_unmade bytes n k, up bytes t r buffer h)
 
 pub moves_back : MovesBack
 unfolding MovesBack WritesBack
-moves_back bytes r buffer older h g =
-    ap (λ (l : Loaded). written_of One l.table older) (up bytes r buffer h) ∙ writes_back One bytes r older (omega arith)
-    ∙ ap (λ (x : List ℕ). bytes ++ x) (drop_of_length-le older {i = image_length One} (omega arith)) ∙ append-nil bytes
+moves_back bytes t r buffer older h g = (
+  t,
+  (
+    up bytes t r buffer h,
+    writes_back One bytes t r older (omega arith)
+        ∙ ap (λ (x : List ℕ). bytes ++ x) (drop_of_length-le older {i = image_length One} (omega arith)) ∙ append-nil bytes,
+  ),
+)
 
 -- what is read is the image of its table
-as_stored : (bytes : List ℕ) (t : Table) → Bytes bytes → read_of bytes ≡ done t → ReadBy bytes → StoredAs t bytes
-as_stored bytes t b e (read_by v a) =
-    let q : t ≡ table_from v bytes = ap (λ (l : Loaded). l.table) (sym e ∙ read_done v bytes a) in
+as_stored : (bytes : List ℕ) (t : Table) → Bytes bytes → ReadBy bytes t → StoredAs t bytes
+as_stored bytes t b (read_by v a q) =
     stored_as v (ap sound q ∙ a.fine) (ap (some_lost v) q ∙ none_lost v bytes) (sym (ap (image_of v) q ∙ image_is v bytes b a))
 
-from_stored : (bytes : List ℕ) (t : Table) → IsTable t → StoredAs t bytes → read_of bytes ≡ done t
+from_stored : (bytes : List ℕ) (t : Table) → IsTable t → StoredAs t bytes → read_of bytes ≡ Ok t
 from_stored bytes t z (stored_as v e k q) = ap read_of q ∙ read_image v t z k e
 
 pub reads_exactly : ReadsExactly
 unfolding ReadsExactly
-reads_exactly bytes t b z =
-    (λ e. as_stored bytes t b e (accepted_by bytes (ap (λ (l : Loaded). read_number l.reply) e)), from_stored bytes t z)
+reads_exactly bytes t b z = (λ e. as_stored bytes t b (accepted_by bytes t e), from_stored bytes t z)
 
 pub decides_bytes : DecidesBytes
 unfolding DecidesBytes
-decides_bytes v bytes other r s e = sym (image_of_read v bytes r) ∙ ap (image_of v) e ∙ image_of_read v other s
+decides_bytes v bytes other t r s = sym (image_of_read v bytes t r) ∙ image_of_read v other t s

@@ -7,11 +7,11 @@ use native.Mathlib.Nat.{mul-suc}
 use native.Mathlib.Numerals.{add-one}
 use native.Mathlib.Omega.{arith}
 use lib.ListN.{length, get_or, set, take, drop, length-append, length-drop, take-append-drop, drop_of_length-le}
-use lib.Seq.{length-take-le, take_at, drop_at, drop-drop, set_split, sets-eq}
+use lib.Seq.{length-take-le, take_at, drop_at, drop-drop, get_or-take, get_or-drop, set_split, sets-eq}
 use borrow.Rule.Slice.PartMut.{put_mid}
 use Rattle.table.specs.declared.Capability.{Capability}
 use Rattle.table.specs.declared.Table.{Table}
-use Rattle.table.specs.Lists.{tabulate}
+use Rattle.table.proofs.Lists.{as_tabulate}
 use Rattle.table.specs.Cells.{record_at, slot_at, empty_slot}
 use Rattle.image.specs.declared.Stored.{Stored}
 use Rattle.octets.specs.BigEndian.{bytes_of}
@@ -63,20 +63,15 @@ stored_left Two part s x l h e f =
     ∙ beside (take_at x b 30 r ∙ e) (ap (λ (q : List ℕ). m ∷ q) (drop_of_length-le (x ++ b) {i = 31} (omega arith)))
 
 -- object n with the eight slots that were copied out
-pub stored_taken : (t : Table) (n : ℕ) (slots : List Capability) → slots ≡ tabulate 8 (slot_at t n)
+pub stored_taken : (t : Table) (n : ℕ) (slots : List Capability) → n < 64 → length t.slots ≡ 512 → slots ≡ take (n * 8 + 8 - n * 8) (drop (n * 8) t.slots)
     → record { object = record_at t n; slots = slots } ≡ stored_at t n
 unfolding stored_at
-stored_taken t n slots e = ap (λ (l : List Capability). record { object = record_at t n; slots = l }) e
-
--- the head, stored byte by byte
-head_stored : (v : Version) (buffer : List ℕ) → 3 ≤ length buffer
-    → set (set (set buffer 0 (get_or (head v) 0 0)) 1 (get_or (head v) 1 0)) 2 (get_or (head v) 2 0) ≡ head v ++ drop 3 buffer
-head_stored One buffer h = sets-eq (head One) buffer 0 (omega arith)
-head_stored Two buffer h = sets-eq (head Two) buffer 0 (omega arith)
-
-pub head_left : (v : Version) (buffer begins : List ℕ) → begins ≡ head v → 3 ≤ length buffer
-    → set (set (set buffer 0 (get_or begins 0 0)) 1 (get_or begins 1 0)) 2 (get_or begins 2 0) ≡ head v ++ drop 3 buffer
-head_left v buffer begins e h = ap (λ (l : List ℕ). set (set (set buffer 0 (get_or l 0 0)) 1 (get_or l 1 0)) 2 (get_or l 2 0)) e ∙ head_stored v buffer h
+stored_taken t n slots h l e =
+    let k : n * 8 + 8 - n * 8 ≡ 8 = omega arith in
+    let f : slots ≡ take 8 (drop (n * 8) t.slots) = e ∙ ap (λ (i : ℕ). take i (drop (n * 8) t.slots)) k in
+    let g = as_tabulate 8 (slot_at t n) empty_slot slots (ap length f ∙ length-take-le 8 (drop (n * 8) t.slots) (omega (arith, length-drop (n * 8) t.slots)))
+    (λ j b. ap (λ (s : List Capability). get_or s j empty_slot) f ∙ get_or-take 8 (drop (n * 8) t.slots) j empty_slot b ∙ get_or-drop (n * 8) t.slots j empty_slot) in
+    ap (λ (s : List Capability). record { object = record_at t n; slots = s }) g
 
 -- the loop that writes records: behind the first three bytes stand n of them, and the rest is as it was
 abbrev pub written_to : Version → Table → List ℕ → ℕ → List ℕ

@@ -9,10 +9,9 @@ ghost use Rattle.image_out.specs.Helpers.{with_last};
 use image::{Stored, Version};
 use table::{Capability, Table};
 
-// Done, or why an image was not written.
-#[derive(Clone, Copy)]
-pub enum WriteReply {
-    Done,
+// Why an image was not written.
+#[derive(Debug, Clone, Copy, PartialEq, Eq)]
+pub enum WriteRefusal {
     TableUnsound,
     BufferShort,
     MakerRecorded,
@@ -23,12 +22,9 @@ fn write_slots(bytes: &mut [u8], slots: [Capability; 8])
     requires { length bytes.old ≡ 16 }
     ensures { bytes.new ≡ slots_bytes slots 8 }
 {
-    let mut j: usize = 0;
-    while j < 8 {
-        let c = slots[j];
-        bytes[2 * j] = c.target;
-        bytes[2 * j + 1] = c.rights;
-        j = j + 1;
+    for (j, slot) in slots.iter().enumerate() {
+        bytes[2 * j] = slot.target;
+        bytes[2 * j + 1] = slot.rights;
     }
 }
 
@@ -74,27 +70,17 @@ fn write_records(buffer: &mut [u8], t: Table, v: Version)
     requires { image_length v ≤ length buffer.old }
     ensures { buffer.new ≡ take 3 buffer.old ++ (records_bytes v t 64 ++ drop (image_length v) buffer.old) }
 {
-    let nothing = Capability {
-        target: 0,
-        rights: 0,
-    };
+    let nothing = Capability::EMPTY;
     let long = image::record_length(v);
-    let mut n: usize = 0;
-    'records: while n < 64 {
+    'records: for n in 0..64 {
         let place = 3 + long * n;
-        let object = t.records[n];
         let mut slots = [nothing; 8];
-        let mut j: usize = 0;
-        'slots: while j < 8 {
-            slots[j] = t.slots[n * 8 + j];
-            j = j + 1;
-        }
+        slots.copy_from_slice(&t.slots[n * 8..n * 8 + 8]);
         let stored = Stored {
-            object: object,
+            object: t.records[n],
             slots: slots,
         };
         write_record(&mut buffer[place..place + long], stored, v);
-        n = n + 1;
     }
 }
 
@@ -103,10 +89,7 @@ fn write_head(buffer: &mut [u8], v: Version)
     requires { 3 ≤ length buffer.old }
     ensures { buffer.new ≡ head_of v ++ drop 3 buffer.old }
 {
-    let begins = image::head(v);
-    buffer[0] = begins[0];
-    buffer[1] = begins[1];
-    buffer[2] = begins[2];
+    buffer[..3].copy_from_slice(&image::head(v));
 }
 
 // Is there no place in the version for the maker?
@@ -123,35 +106,25 @@ fn maker_lost(maker: u8, v: Version) -> bool
 fn some_lost(t: Table, v: Version) -> bool
     ensures { result ≡ some_lost v t }
 {
-    let mut n: usize = 0;
-    while n < 64 {
-        if maker_lost(t.records[n].maker, v) {
-            return true;
-        }
-        n = n + 1;
-    }
-    false
+    t.records.iter().any(|r| maker_lost(r.maker, v))
 }
 
 // Writes a table's image of a version: 1 for a table that is not sound, 23 for a maker that the version has no place for, 16 for a buffer
 // that is too short. A refusal leaves every byte of the buffer; success fills the version's length and touches no byte after it.
-pub fn write(t: Table, buffer: &mut [u8], v: Version) -> WriteReply
+pub fn write(t: Table, buffer: &mut [u8], v: Version) -> Result<(), WriteRefusal>
     ensures reply { result ≡ write_refusal v t buffer.old }
     ensures left { buffer.new ≡ written_of v t buffer.old }
 {
-    let fine = table::is_sound(t);
-    let lost = some_lost(t, v);
-    let short = buffer.len() < image::image_length(v);
-    if !fine {
-        return WriteReply::TableUnsound;
+    if !table::is_sound(t) {
+        return Err(WriteRefusal::TableUnsound);
     }
-    if lost {
-        return WriteReply::MakerRecorded;
+    if some_lost(t, v) {
+        return Err(WriteRefusal::MakerRecorded);
     }
-    if short {
-        return WriteReply::BufferShort;
+    if buffer.len() < image::image_length(v) {
+        return Err(WriteRefusal::BufferShort);
     }
     write_head(buffer, v);
     write_records(buffer, t, v);
-    WriteReply::Done
+    Ok(())
 }

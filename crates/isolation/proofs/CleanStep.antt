@@ -14,10 +14,10 @@ use Rattle.table.proofs.SoundFacts.{sound_true}
 use Rattle.rights.specs.declared.Need.TheVariants.{ReadOrWeak, Write, Send}
 use Rattle.rights.specs.declared.Need.{Need}
 use Rattle.rights.specs.Rows.{need_met}
-use Rattle.refusals.specs.declared.Reply.{Reply}
-use Rattle.refusals.specs.declared.Reply.TheVariants.{Done, ActorUnfit, SlotEmpty, RightAbsent, TargetPassive, ActorItself, NotInStock}
+use Rattle.std.specs.Prelude.{Err}
+use Rattle.refusals.specs.declared.Refusal.TheVariants.{ActorUnfit, SlotEmpty, RightAbsent, TargetPassive, ActorItself, NotInStock}
+use Rattle.refusals.specs.Replies.{Reply, Done, is_done}
 use Rattle.requests.specs.Asks.{Ask, read, write, fetch, store, revoke, send, allocate, destroy, reclaim, unknown, actor_of}
-use Rattle.refusals.specs.Replies.{is_done}
 use Rattle.refusals.specs.Refusals.{refuse, no_slot, no_object, bad_list, bad_field, unfit, alive, dead, wrong_status, through, through_slot, not_in_stock, target_of, later_rows, refusal}
 use Rattle.effects.specs.Effects.{effect}
 use Rattle.steps.specs.Steps.{after}
@@ -41,7 +41,7 @@ through_by : (c : Capability) (r s : Record) (wanted : ℕ) (able : Bool) (x y :
 unfolding through
 through_by c r s wanted able x y f = by_cases (is_empty c)
     (λ e. rw e refl)
-    (λ e. ap₂ (λ (w : ℕ) (z : Reply). refuse (is_empty c) SlotEmpty (refuse ((eqb w 1 || eqb w 2) && not (eqb w wanted)) (wrong_status wanted) (refuse (not able) RightAbsent z))) (f e).0 (f e).1)
+    (λ e. ap₂ (λ (w : ℕ) (z : Reply). refuse (is_empty c) (Err SlotEmpty) (refuse ((eqb w 1 || eqb w 2) && not (eqb w wanted)) (wrong_status wanted) (refuse (not able) (Err RightAbsent) z))) (f e).0 (f e).1)
 
 -- the fields come first, the slot second
 slot_of_lem : (a s : ℕ) → (no_object a || no_slot s) ≡ false → s < 8
@@ -68,12 +68,12 @@ module _ (C : Clean) (t u : Table) (v : Isolated t C) (w : Isolated u C) (ag : A
   later_same (revoke a s j) c f = through_same a s alive Write Done Done c (slot_of_lem a s (or_none (no_object a || no_slot s) (no_slot j) f).0) (λ l. refl)
   later_same (send a s x l y) c f =
       let hs = slot_of_lem a s (or_none (no_object a || no_slot s) (bad_list l) (or_none (no_object a || no_slot s || bad_list l) _ f).0).0 in
-      through_same a s alive Send _ _ c hs (λ r. ap (λ (k : ℕ). refuse (not (eqb k 1)) TargetPassive Done)
+      through_same a s alive Send _ _ c hs (λ r. ap (λ (k : ℕ). refuse (not (eqb k 1)) (Err TargetPassive) Done)
       ((ag.records _ (v.inside a s hs c r)).kind ∙ ap (λ (k : Capability). (record_at u k.target).kind) (ag.slots a s hs c)))
-  later_same (allocate a n k p i l) c f = ap (λ (x : ℕ). refuse (not_in_stock n p x) NotInStock Done) (ag.records a c).stock
+  later_same (allocate a n k p i l) c f = ap (λ (x : ℕ). refuse (not_in_stock n p x) (Err NotInStock) Done) (ag.records a c).stock
   later_same (destroy a s) c f =
       let hs = slot_of_lem a s f in
-      through_same a s alive Write _ _ c hs (λ r. ap (λ (k : Capability). refuse (eqb k.target a) ActorItself Done) (ag.slots a s hs c))
+      through_same a s alive Write _ _ c hs (λ r. ap (λ (k : Capability). refuse (eqb k.target a) (Err ActorItself) Done) (ag.slots a s hs c))
   later_same (reclaim a s) c f = through_same a s dead Write Done Done c (slot_of_lem a s f) (λ l. refl)
   later_same (unknown k a) c f = refl
 
@@ -81,7 +81,7 @@ module _ (C : Clean) (t u : Table) (v : Isolated t C) (w : Isolated u C) (ag : A
   unfolding refusal
   same_reply q c = rw (sound_true t v.sound, sound_true u w.sound) (by_cases (bad_field q)
       (λ e. rw e refl)
-      (λ e. rw e (ap₂ (λ (b : Bool) (z : Reply). refuse b ActorUnfit z) (unfit_same _ _ (ag.records (actor_of q) c)) (later_same q c e))))
+      (λ e. rw e (ap₂ (λ (b : Bool) (z : Reply). refuse b (Err ActorUnfit) z) (unfit_same _ _ (ag.records (actor_of q) c)) (later_same q c e))))
 
   -- what the effects come to
   record Effects (q : Ask) (D : Clean) : Type 0 where

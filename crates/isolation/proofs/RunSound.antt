@@ -15,10 +15,10 @@ use Rattle.table.specs.Cells.{record_at, stock_at, is_active, is_empty}
 use Rattle.table.specs.Soundness.{sound}
 use Rattle.table.proofs.Cells.{Sized}
 use Rattle.table.proofs.SoundFacts.{Sound, sound_facts, sound_true}
-use Rattle.refusals.specs.declared.Reply.{Reply}
-use Rattle.refusals.specs.declared.Reply.TheVariants.{Done, FieldInvalid, ActorUnfit, SlotEmpty, RightAbsent, TargetPassive, ActorItself, NotInStock}
+use Rattle.std.specs.Prelude.{Err}
+use Rattle.refusals.specs.declared.Refusal.TheVariants.{FieldInvalid, ActorUnfit, SlotEmpty, RightAbsent, TargetPassive, ActorItself, NotInStock}
+use Rattle.refusals.specs.Replies.{Reply, Done, number}
 use Rattle.requests.specs.Asks.{Ask, read, write, fetch, store, revoke, send, allocate, destroy, reclaim, unknown, actor_of}
-use Rattle.refusals.specs.Replies.{number}
 use Rattle.refusals.specs.Refusals.{refuse, bad_field, unfit, not_in_stock, target_of, target_record, alive, other_status, wrong_status, through, through_slot, later_rows, refusal}
 use Rattle.steps.specs.Steps.{after, run_table, run_replies}
 use Rattle.isolation.proofs.Others.{sound_step}
@@ -33,7 +33,7 @@ wrong_not wanted = by_cases (eqb wanted alive) (λ q. rw (q, wrong_status) (λ e
 
 through_not : (c : Capability) (r : Record) (wanted : ℕ) (able : Bool) (rest : Reply) → number rest ≢ 1 → number (through c r wanted able rest) ≢ 1
 unfolding through
-through_not c r wanted able rest h = refuse_not (is_empty c) SlotEmpty _ (λ e. omega arith) (refuse_not (other_status wanted r) (wrong_status wanted) _ (wrong_not wanted) (refuse_not (not able) RightAbsent rest (λ e. omega arith) h))
+through_not c r wanted able rest h = refuse_not (is_empty c) (Err SlotEmpty) _ (λ e. omega arith) (refuse_not (other_status wanted r) (wrong_status wanted) _ (wrong_not wanted) (refuse_not (not able) (Err RightAbsent) rest (λ e. omega arith) h))
 
 later_not : (t : Table) (q : Ask) → number (later_rows t q) ≢ 1
 unfolding later_rows through_slot
@@ -42,16 +42,16 @@ later_not t (write a s w) = through_not _ _ _ _ Done (λ e. omega arith)
 later_not t (fetch a s i j) = through_not _ _ _ _ Done (λ e. omega arith)
 later_not t (store a s i j) = through_not _ _ _ _ Done (λ e. omega arith)
 later_not t (revoke a s j) = through_not _ _ _ _ Done (λ e. omega arith)
-later_not t (send a s w l y) = through_not _ _ _ _ _ (refuse_not (not (is_active (target_record t a s))) TargetPassive Done (λ e. omega arith) (λ e. omega arith))
-later_not t (allocate a n k p i l) = refuse_not (not_in_stock n p (stock_at t a)) NotInStock Done (λ e. omega arith) (λ e. omega arith)
-later_not t (destroy a s) = through_not _ _ _ _ _ (refuse_not (eqb (target_of t a s) a) ActorItself Done (λ e. omega arith) (λ e. omega arith))
+later_not t (send a s w l y) = through_not _ _ _ _ _ (refuse_not (not (is_active (target_record t a s))) (Err TargetPassive) Done (λ e. omega arith) (λ e. omega arith))
+later_not t (allocate a n k p i l) = refuse_not (not_in_stock n p (stock_at t a)) (Err NotInStock) Done (λ e. omega arith) (λ e. omega arith)
+later_not t (destroy a s) = through_not _ _ _ _ _ (refuse_not (eqb (target_of t a s) a) (Err ActorItself) Done (λ e. omega arith) (λ e. omega arith))
 later_not t (reclaim a s) = through_not _ _ _ _ Done (λ e. omega arith)
 later_not t (unknown k a) = λ e. omega arith
 
 -- a sound table is never answered 1
 pub sound_never_one : (t : Table) (q : Ask) → sound t ≡ true → number (refusal t q) ≢ 1
 unfolding refusal
-sound_never_one t q e = rw e (refuse_not (bad_field q) FieldInvalid _ (λ d. omega arith) (refuse_not (unfit (record_at t (actor_of q))) ActorUnfit _ (λ d. omega arith) (later_not t q)))
+sound_never_one t q e = rw e (refuse_not (bad_field q) (Err FieldInvalid) _ (λ d. omega arith) (refuse_not (unfit (record_at t (actor_of q))) (Err ActorUnfit) _ (λ d. omega arith) (later_not t q)))
 
 run_sound : (qs : List Ask) (t : Table) → Sound t → Sound (run_table t qs)
 unfolding run_table

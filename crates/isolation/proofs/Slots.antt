@@ -10,9 +10,8 @@ use Rattle.table.specs.declared.Table.{Table}
 use Rattle.table.specs.Cells.{record_at, slot_at, has_rd}
 use Rattle.table.proofs.Cells.{Sized}
 use Rattle.rights.specs.declared.Need.TheVariants.{ReadOrWeak, Write}
-use Rattle.refusals.specs.declared.Reply.TheVariants.{Done}
+use Rattle.refusals.specs.Replies.{Done, is_done}
 use Rattle.requests.specs.Asks.{read, write, fetch, store, revoke}
-use Rattle.refusals.specs.Replies.{is_done}
 use Rattle.refusals.specs.Refusals.{no_object, no_slot, bad_field, alive, later_rows, refusal, target_of, rights_of}
 use Rattle.effects.specs.Effects.{effect}
 use Rattle.copies.specs.Copies.{fetched}

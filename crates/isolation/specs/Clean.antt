@@ -9,9 +9,8 @@ use Rattle.table.specs.declared.Table.{Table}
 use Rattle.table.specs.Cells.{no_maker, maker_at}
 use Rattle.relation.specs.Relation.{takes_part}
 use Rattle.bounds.specs.StandIn.{bound_of}
-use Rattle.refusals.specs.declared.Reply.{Reply}
+use Rattle.refusals.specs.Replies.{Reply, is_done}
 use Rattle.requests.specs.Asks.{Ask, read, write, fetch, store, revoke, send, allocate, destroy, reclaim, unknown, actor_of}
-use Rattle.refusals.specs.Replies.{is_done}
 use Rattle.refusals.specs.Refusals.{refusal, target_of}
 use Rattle.steps.specs.Steps.{after}
 

@@ -1,145 +1,86 @@
 // The step, document 01: a table and a request in, the reply and the table out. Here are the four requests that change more than one
-// cell, on a table that is sound when it comes here, and the choice by the request.
+// cell, on a table that is sound, and the choice by the request. Each request gives the table after it, or why it
+// is refused; the step puts that together with the table that was there.
 #![tactic(auto)]
 
-ghost use Rattle.std.specs.Prelude.{◌≡◌, true, ◌<◌};
-ghost use Rattle.table.specs.Cells.{record_at};
-ghost use Rattle.table.specs.Soundness.{sound};
+ghost use Rattle.std.specs.Prelude.{◌≡◌};
 ghost use Rattle.requests.specs.Asks.{ask_of, pairs_of, send as send_ask, allocate as allocate_ask, destroy as destroy_ask, reclaim as reclaim_ask};
 ghost use Rattle.steps.specs.Steps.{step_of};
+ghost use Rattle.steps.specs.Outcomes.{outcome_of};
 
 use effects::{allocated, destroyed, reclaimed, sent};
-use refusals::{ALIVE, DEAD, Reply, check_slot, list_bad};
+use refusals::{ALIVE, DEAD, Refusal, SoundTable, check_slot, list_bad};
 use requests::{PairList, Request};
 use rights::Need;
 use steps::Stepped;
-use table::{Record, Table};
+use table::Table;
 
 // The word, the pairs and the reply slot go to an active target.
-fn send(t: Table, actor: u8, s: u8, word: u32, l: PairList, reply: u8) -> Stepped
-    requires { sound t ≡ true }
-    ensures { result ≡ step_of t (send_ask actor s word (pairs_of l) reply) }
+fn send(
+    t: SoundTable,
+    actor: u8,
+    s: u8,
+    word: u32,
+    l: PairList,
+    reply: u8,
+) -> Result<Table, Refusal>
+    ensures { result ≡ outcome_of t.entry.table.now (send_ask actor s word (pairs_of l) reply) }
 {
-    let v = check_slot(t, actor, s, list_bad(l) | (8 < reply), ALIVE, Need::Send);
-    let why = v.reply;
-    if !v.done {
-        return Stepped {
-            reply: why,
-            table: t,
-        };
+    let seen = check_slot(t, actor, s, list_bad(l) | (8 < reply), ALIVE, Need::Send)?;
+    if !(seen.kind == 1) {
+        return Err(Refusal::TargetPassive);
     }
-    let g = v.target;
-    if !(v.kind == 1) {
-        return Stepped {
-            reply: Reply::TargetPassive,
-            table: t,
-        };
-    }
-    let u = sent(t, actor, g, word, l, reply);
-    Stepped {
-        reply: Reply::Done,
-        table: u,
-    }
-}
-
-// The record of object n. Read in a function of its own, the table is copied only for as long as the read takes.
-fn record_of(t: Table, n: u8) -> Record
-    requires { n < 64 }
-    ensures { result ≡ record_at t n }
-{
-    let k = n as usize;
-    t.records[k]
+    Ok(sent(*t.table, actor, seen.target, word, l, reply))
 }
 
 // n, of the actor's own stock, becomes alive.
-fn allocate(t: Table, actor: u8, n: u8, kind: u8, part: u64, i: u8, l: PairList) -> Stepped
-    requires { sound t ≡ true }
-    ensures { result ≡ step_of t (allocate_ask actor n kind part i (pairs_of l)) }
+fn allocate(
+    t: SoundTable,
+    actor: u8,
+    n: u8,
+    kind: u8,
+    part: u64,
+    i: u8,
+    l: PairList,
+) -> Result<Table, Refusal>
+    ensures { result ≡ outcome_of t.entry.table.now (allocate_ask actor n kind part i (pairs_of l)) }
 {
     if (63 < actor) | (63 < n) | (1 < kind) | (7 < i) | list_bad(l) {
-        return Stepped {
-            reply: Reply::FieldInvalid,
-            table: t,
-        };
+        return Err(Refusal::FieldInvalid);
     }
-    let a = record_of(t, actor);
-    if !(a.status == 1) | !(a.kind == 1) {
-        return Stepped {
-            reply: Reply::ActorUnfit,
-            table: t,
-        };
+    let a = t.table.records[actor as usize];
+    if !a.is_alive() | !a.is_active() {
+        return Err(Refusal::ActorUnfit);
     }
     if !mask::has(a.stock, n) | !mask::subset(part, mask::without(a.stock, n)) {
-        return Stepped {
-            reply: Reply::NotInStock,
-            table: t,
-        };
+        return Err(Refusal::NotInStock);
     }
-    let u = allocated(t, actor, n, kind, part, i, l);
-    Stepped {
-        reply: Reply::Done,
-        table: u,
-    }
+    Ok(allocated(*t.table, actor, n, kind, part, i, l))
 }
 
 // The target becomes dead, unless it is the actor itself.
-fn destroy(t: Table, actor: u8, s: u8) -> Stepped
-    requires { sound t ≡ true }
-    ensures { result ≡ step_of t (destroy_ask actor s) }
+fn destroy(t: SoundTable, actor: u8, s: u8) -> Result<Table, Refusal>
+    ensures { result ≡ outcome_of t.entry.table.now (destroy_ask actor s) }
 {
-    let v = check_slot(t, actor, s, false, ALIVE, Need::Write);
-    let why = v.reply;
-    if !v.done {
-        return Stepped {
-            reply: why,
-            table: t,
-        };
+    let seen = check_slot(t, actor, s, false, ALIVE, Need::Write)?;
+    if seen.target == actor {
+        return Err(Refusal::ActorItself);
     }
-    let g = v.target;
-    if g == actor {
-        return Stepped {
-            reply: Reply::ActorItself,
-            table: t,
-        };
-    }
-    let u = destroyed(t, actor, g);
-    Stepped {
-        reply: Reply::Done,
-        table: u,
-    }
+    Ok(destroyed(*t.table, actor, seen.target))
 }
 
 // The number of a dead target becomes unborn and joins the actor's stock.
-fn reclaim(t: Table, actor: u8, s: u8) -> Stepped
-    requires { sound t ≡ true }
-    ensures { result ≡ step_of t (reclaim_ask actor s) }
+fn reclaim(t: SoundTable, actor: u8, s: u8) -> Result<Table, Refusal>
+    ensures { result ≡ outcome_of t.entry.table.now (reclaim_ask actor s) }
 {
-    let v = check_slot(t, actor, s, false, DEAD, Need::Write);
-    let why = v.reply;
-    if !v.done {
-        return Stepped {
-            reply: why,
-            table: t,
-        };
-    }
-    let g = v.target;
-    let u = reclaimed(t, actor, g);
-    Stepped {
-        reply: Reply::Done,
-        table: u,
-    }
+    let seen = check_slot(t, actor, s, false, DEAD, Need::Write)?;
+    Ok(reclaimed(*t.table, actor, seen.target))
 }
 
-// One request on a table: the reply, and the table after it. A refused request gives back the very table.
-pub fn step(t: Table, request: Request, list: PairList) -> Stepped
-    ensures { result ≡ step_of t (ask_of request list) }
+// The table that one request leaves, or why it is refused: each has its own function.
+fn outcome(t: SoundTable, request: Request, list: PairList) -> Result<Table, Refusal>
+    ensures { result ≡ outcome_of t.entry.table.now (ask_of request list) }
 {
-    if !table::is_sound(t) {
-        return Stepped {
-            reply: Reply::TableUnsound,
-            table: t,
-        };
-    }
     match request {
         Request::Read { actor, t: s } => steps::read(t, actor, s),
         Request::Write { actor, t: s, word } => steps::write(t, actor, s, word),
@@ -161,8 +102,27 @@ pub fn step(t: Table, request: Request, list: PairList) -> Stepped
         } => allocate(t, actor, n, kind, part, i, list),
         Request::Destroy { actor, t: s } => destroy(t, actor, s),
         Request::Reclaim { actor, t: s } => reclaim(t, actor, s),
-        Request::Unknown { code: _, actor: _ } => Stepped {
-            reply: Reply::FieldInvalid,
+        Request::Unknown { code: _, actor: _ } => Err(Refusal::FieldInvalid),
+    }
+}
+
+// One request on a table: the reply, and the table after it. A refused request gives back the very table.
+pub fn step(t: Table, request: Request, list: PairList) -> Stepped
+    ensures { result ≡ step_of t (ask_of request list) }
+{
+    if !table::is_sound(t) {
+        return Stepped {
+            reply: Err(Refusal::TableUnsound),
+            table: t,
+        };
+    }
+    match outcome(SoundTable { table: &t }, request, list) {
+        Ok(u) => Stepped {
+            reply: Ok(()),
+            table: u,
+        },
+        Err(why) => Stepped {
+            reply: Err(why),
             table: t,
         },
     }

@@ -16,6 +16,7 @@ use Rattle.relation.proofs.Reach.{count, count_lt, count_high}
 use Rattle.links.specs.Links.{word_edge}
 use Rattle.sweeps.specs.Helpers.{Lowest, PutEach}
 use Rattle.sweeps.proofs.Numbers.{lowest_is}
+use Rattle.leads.specs.declared.Step.{Step as Kept}
 use Rattle.leads.specs.Helpers.{Leading, Settled, SettledWith}
 use Rattle.leads.proofs.Reaching.{word_low, reach_start, reach_edge, reach_more, reach_on, as_reached}
 use Rattle.leads.proofs.Settling.{in_union, union_left, union_right, in_neither, in_less, less_in, less_none, union_fits, less_count, reached_in}
@@ -31,6 +32,13 @@ none_common v a b m h n z e = by_cases (has v b)
 -- how much there is still to do: numbers that are free, steps before the last, numbers to look at
 abbrev pub to_do : ℕ → ℕ → ℕ → ℕ
 to_do free depth looked = (count 64 free * 65 + depth) * 65 + (64 - count 64 looked)
+
+-- a step as the path has it
+abbrev pub no_step : Kept
+no_step = record { objects = 0; known = 0; passed = 0 }
+
+abbrev pub at : List Kept → ℕ → Kept
+at path i = get_or path i no_step
 
 module _ (groups links : List ℕ) (g : Leading groups links) where
   abbrev E : ℕ → ℕ → Bool
@@ -82,28 +90,24 @@ module _ (groups links : List ℕ) (g : Leading groups links) where
     }
 
   -- the path ---------------------------------------------------------------------------------------
-  pub record Walk (settled x : ℕ) (rows path known passed : List ℕ) (objects s looked free done depth : ℕ) : Type 0 where
+  pub record Walk (settled x : ℕ) (rows : List ℕ) (path : List Kept) (objects s looked free done depth : ℕ) : Type 0 where
     pub deep : depth ≤ 64
     pub path_long : length path ≡ 64
-    pub known_long : length known ≡ 64
-    pub passed_long : length passed ≡ 64
     pub now : Settled groups links done rows
     pub kept : (u : ℕ) → u < 64 → has u settled ≡ true → has u done ≡ true
     pub first : (x < 64) × In x × (has x free ≡ false)
     pub step : Step objects s looked
-    pub steps : (i : ℕ) → i < depth → Step (get_or path i 0) (get_or known i 0) (get_or passed i 0)
-    pub ahead : (i u v : ℕ) → i < depth → u < 64 → v < 64 → has u (get_or path i 0) ≡ true → has v s ≡ true → To u v
-    pub pairs : (i j u v : ℕ) → i < j → j < depth → u < 64 → v < 64 → has u (get_or path i 0) ≡ true → has v (get_or known j 0) ≡ true → To u v
-    pub visited : (z : ℕ) → z < 64 → In z → has z free ≡ false → has z done ≡ false → (has z objects || any_below depth (λ k. has z (get_or path k 0))) ≡ true
+    pub steps : (i : ℕ) → i < depth → Step ((at path i).objects) ((at path i).known) ((at path i).passed)
+    pub ahead : (i u v : ℕ) → i < depth → u < 64 → v < 64 → has u ((at path i).objects) ≡ true → has v s ≡ true → To u v
+    pub pairs : (i j u v : ℕ) → i < j → j < depth → u < 64 → v < 64 → has u ((at path i).objects) ≡ true → has v ((at path j).known) ≡ true → To u v
+    pub visited : (z : ℕ) → z < 64 → In z → has z free ≡ false → has z done ≡ false → (has z objects || any_below depth (λ k. has z ((at path k).objects))) ≡ true
 
-  pub walk_start : (settled unsettled x free : ℕ) (rows path known passed : List ℕ) → Settled groups links settled rows → x < 64 → In x
-      → ((u : ℕ) → u < 64 → In u → has u settled ≡ false → has u unsettled ≡ true) → length path ≡ 64 → length known ≡ 64 → length passed ≡ 64
-      → free ≡ less_of unsettled (get_or groups x 0) → Walk settled x rows path known passed (get_or groups x 0) (get_or links x 0) (get_or groups x 0) free settled 0
-  walk_start settled unsettled x free rows path known passed s hx p more lp lk la n = record {
+  pub walk_start : (settled unsettled x free : ℕ) (rows : List ℕ) (path : List Kept) → Settled groups links settled rows → x < 64 → In x
+      → ((u : ℕ) → u < 64 → In u → has u settled ≡ false → has u unsettled ≡ true) → length path ≡ 64
+      → free ≡ less_of unsettled (get_or groups x 0) → Walk settled x rows path (get_or groups x 0) (get_or links x 0) (get_or groups x 0) free settled 0
+  walk_start settled unsettled x free rows path s hx p more lp n = record {
     deep = omega arith;
     path_long = lp;
-    known_long = lk;
-    passed_long = la;
     now = s;
     kept = λ u hu e. e;
     first = (hx, p, by_cases (has x free) (λ e. clash p (in_less x unsettled (get_or groups x 0) free hx n e).1) (λ e. e));
@@ -115,7 +119,7 @@ module _ (groups links : List ℕ) (g : Leading groups links) where
         (λ y. clash (less_in z unsettled (get_or groups x 0) free hz n (more z hz q f) y) e));
   }
 
-  module _ (settled x : ℕ) (rows path known passed : List ℕ) (o s l free done depth left : ℕ) (p : Walk settled x rows path known passed o s l free done depth)
+  module _ (settled x : ℕ) (rows : List ℕ) (path : List Kept) (o s l free done depth left : ℕ) (p : Walk settled x rows path o s l free done depth)
       (n : left ≡ less_of s l) where
     left_fits : left < 2 ^ 64
     unfolding less_of
@@ -128,12 +132,10 @@ module _ (groups links : List ℕ) (g : Leading groups links) where
     -- more of the last step
     module _ (y w c t a : ℕ) (hy : y < 64) (there : has y left ≡ true) (to : (v : ℕ) → v < 64 → has v w ≡ true → To y v)
         (all : (u v : ℕ) → u < 64 → v < 64 → has u c ≡ true → E u v ≡ true → has v w ≡ true) (e : t ≡ union_of s w) (f : a ≡ union_of l c) where
-      last_more : Walk settled x rows path known passed o t a free done depth
+      last_more : Walk settled x rows path o t a free done depth
       last_more = let ys = (is_left y hy there).0 in record {
         deep = p.deep;
         path_long = p.path_long;
-        known_long = p.known_long;
-        passed_long = p.passed_long;
         now = p.now;
         kept = p.kept;
         first = p.first;
@@ -159,7 +161,7 @@ module _ (groups links : List ℕ) (g : Leading groups links) where
       row : get_or rows y 0 ≡ reached E y
       row = p.now.row y q.low both.1
 
-      pub walk_ready : Walk settled x rows path known passed o t a free done depth
+      pub walk_ready : Walk settled x rows path o t a free done depth
       walk_ready = last_more y (get_or rows y 0) (get_or rows y 0) t a q.low both.0 (λ v hv z. ap (has v) (sym row) ∙ z)
           (λ u v hu hv z h. ap (has v) row ∙ reach_more E low y u v q.low hu (ap (has u) (sym row) ∙ z) h) e f
 
@@ -180,7 +182,7 @@ module _ (groups links : List ℕ) (g : Leading groups links) where
       y_in = p.step.inside y q.low known_y
 
       -- looked at where it is
-      pub walk_here : (t a : ℕ) → t ≡ union_of s (get_or links y 0) → a ≡ union_of l (get_or groups y 0) → Walk settled x rows path known passed o t a free done depth
+      pub walk_here : (t a : ℕ) → t ≡ union_of s (get_or links y 0) → a ≡ union_of l (get_or groups y 0) → Walk settled x rows path o t a free done depth
       walk_here t a e f = last_more y (get_or links y 0) (get_or groups y 0) t a q.low in_both.0 (λ v hv z. reach_edge E low y v z)
           (λ u v hu hv z h. ap (has v) (sym (g.mates y u q.low hu z).1) ∙ h) e f
 
@@ -190,62 +192,54 @@ module _ (groups links : List ℕ) (g : Leading groups links) where
 
       -- or as a step of its own
       module _ (h : depth < 64) (b : ℕ) (e : b ≡ less_of free (get_or groups y 0)) where
-        abbrev path' : List ℕ
-        path' = set path depth o
+        abbrev path' : List Kept
+        path' = set path depth (record { objects = o; known = s; passed = l })
 
-        abbrev known' : List ℕ
-        known' = set known depth s
+        new_at : at path' depth ≡ record { objects = o; known = s; passed = l }
+        new_at = get_or-set_same path depth _ no_step (omega (arith, h, p.path_long))
 
-        abbrev passed' : List ℕ
-        passed' = set passed depth l
+        path_at : (at path' depth).objects ≡ o
+        path_at = ap (λ (w : Kept). w.objects) new_at
 
-        path_at : get_or path' depth 0 ≡ o
-        path_at = get_or-set_same path depth o 0 (omega (arith, h, p.path_long))
+        known_at : (at path' depth).known ≡ s
+        known_at = ap (λ (w : Kept). w.known) new_at
 
-        known_at : get_or known' depth 0 ≡ s
-        known_at = get_or-set_same known depth s 0 (omega (arith, h, p.known_long))
+        old_at : (i : ℕ) → i < depth → at path' i ≡ at path i
+        old_at i k = get_or-set_other path depth i _ no_step (λ z. omega (arith, z, k))
 
-        passed_at : get_or passed' depth 0 ≡ l
-        passed_at = get_or-set_same passed depth l 0 (omega (arith, h, p.passed_long))
+        path_old : (i : ℕ) → i < depth → (at path' i).objects ≡ (at path i).objects
+        path_old i k = ap (λ (w : Kept). w.objects) (old_at i k)
 
-        path_old : (i : ℕ) → i < depth → get_or path' i 0 ≡ get_or path i 0
-        path_old i k = get_or-set_other path depth i o 0 (λ z. omega (arith, z, k))
-
-        known_old : (i : ℕ) → i < depth → get_or known' i 0 ≡ get_or known i 0
-        known_old i k = get_or-set_other known depth i s 0 (λ z. omega (arith, z, k))
-
-        passed_old : (i : ℕ) → i < depth → get_or passed' i 0 ≡ get_or passed i 0
-        passed_old i k = get_or-set_other passed depth i l 0 (λ z. omega (arith, z, k))
+        known_old : (i : ℕ) → i < depth → (at path' i).known ≡ (at path i).known
+        known_old i k = ap (λ (w : Kept). w.known) (old_at i k)
 
         -- whoever leads to y leads to whom y leads to
         on : (u v : ℕ) → u < 64 → To u y → has v (get_or links y 0) ≡ true → To u v
         on u v hu z k = reach_more E low u y v hu q.low z k
 
-        on_path : (z : ℕ) → (has z o || any_below depth (λ k. has z (get_or path k 0))) ≡ true → any_below (depth + 1) (λ k. has z (get_or path' k 0)) ≡ true
+        on_path : (z : ℕ) → (has z o || any_below depth (λ k. has z ((at path k).objects))) ≡ true → any_below (depth + 1) (λ k. has z ((at path' k).objects)) ≡ true
         on_path z w = or_cases (has z o) _ w
             (λ a. any_intro (depth + 1) _ depth (omega arith) (ap (has z) path_at ∙ a))
             (λ a. any_elim depth _ a (λ k hk c. any_intro (depth + 1) _ k (omega (arith, hk)) (ap (has z) (path_old k hk) ∙ c)))
 
-        pub walk_push : Walk settled x rows path' known' passed' (get_or groups y 0) (get_or links y 0) (get_or groups y 0) b done (depth + 1)
+        pub walk_push : Walk settled x rows path' (get_or groups y 0) (get_or links y 0) (get_or groups y 0) b done (depth + 1)
         walk_push = record {
           deep = omega arith;
-          path_long = length-set path depth o ∙ p.path_long;
-          known_long = length-set known depth s ∙ p.known_long;
-          passed_long = length-set passed depth l ∙ p.passed_long;
+          path_long = length-set path depth _ ∙ p.path_long;
           now = p.now;
           kept = p.kept;
           first = (p.first.0, p.first.1, by_cases (has x b) (λ z. clash (in_less x free (get_or groups y 0) b p.first.0 e z).0 p.first.2) (λ z. z));
           step = step_start y q.low y_in;
           steps = λ i k. by_eq i depth
-              (λ z. rw (z, path_at, known_at, passed_at) p.step)
-              (λ z. let k' : i < depth = omega (arith, k, z) in rw (path_old i k', known_old i k', passed_old i k') (p.steps i k'));
+              (λ z. subst⁻¹ (λ (w : Kept). Step w.objects w.known w.passed) (ap (at path') z ∙ new_at) p.step)
+              (λ z. let k' : i < depth = omega (arith, k, z) in subst⁻¹ (λ (w : Kept). Step w.objects w.known w.passed) (old_at i k') (p.steps i k'));
           ahead = λ i u v k hu hv z w. by_eq i depth
-              (λ j. on u v hu (p.step.reach u y hu q.low (ap (has u) (sym path_at ∙ ap (λ (m : ℕ). get_or path' m 0) (sym j)) ∙ z) known_y) w)
+              (λ j. on u v hu (p.step.reach u y hu q.low (ap (has u) (sym path_at ∙ ap (λ (m : ℕ). (at path' m).objects) (sym j)) ∙ z) known_y) w)
               (λ j. let k' : i < depth = omega (arith, k, j) in on u v hu (p.ahead i u y k' hu q.low (ap (has u) (sym (path_old i k')) ∙ z) known_y) w);
           pairs = λ i j u v ij k hu hv z w.
               let k' : i < depth = omega (arith, ij, k) in
-              let z' : has u (get_or path i 0) ≡ true = ap (has u) (sym (path_old i k')) ∙ z in by_eq j depth
-              (λ c. p.ahead i u v k' hu hv z' (ap (has v) (sym known_at ∙ ap (λ (m : ℕ). get_or known' m 0) (sym c)) ∙ w))
+              let z' : has u ((at path i).objects) ≡ true = ap (has u) (sym (path_old i k')) ∙ z in by_eq j depth
+              (λ c. p.ahead i u v k' hu hv z' (ap (has v) (sym known_at ∙ ap (λ (m : ℕ). (at path' m).known) (sym c)) ∙ w))
               (λ c. let j' : j < depth = omega (arith, k, c) in p.pairs i j u v ij j' hu hv z' (ap (has v) (sym (known_old j j')) ∙ w));
           visited = λ z hz i c d. by_cases (has z (get_or groups y 0))
               (λ w. or_left (has z (get_or groups y 0)) _ w)
@@ -257,60 +251,58 @@ module _ (groups links : List ℕ) (g : Leading groups links) where
 
     -- what is left leads back to the path
     module _ (ready fresh : ℕ) (r : ready ≡ common_of left done) (rz : ready ≡ 0) (f : fresh ≡ common_of left free) (fz : fresh ≡ 0) (some : 0 < left) where
-      at_left : {P : Type 0} (y : ℕ) → Lowest left y → ((z k : ℕ) → z < 64 → has z s ≡ true → k < depth → has z (get_or path k 0) ≡ true → P) → P
+      at_left : {P : Type 0} (y : ℕ) → Lowest left y → ((z k : ℕ) → z < 64 → has z s ≡ true → k < depth → has z ((at path k).objects) ≡ true → P) → P
       at_left y w then =
           let k = is_left y w.low w.there in
           or_cases (has y o) _ (p.visited y w.low (p.step.inside y w.low k.0) (none_common y left free fresh w.low f fz w.there) (none_common y left done ready w.low r rz w.there))
           (λ a. clash (p.step.covered y w.low a) k.1)
           (λ a. any_elim depth _ a (λ i hi c. then y i w.low k.0 hi c))
 
-      back_at : {P : Type 0} → ((z k : ℕ) → z < 64 → has z s ≡ true → k < depth → has z (get_or path k 0) ≡ true → P) → P
+      back_at : {P : Type 0} → ((z k : ℕ) → z < 64 → has z s ≡ true → k < depth → has z ((at path k).objects) ≡ true → P) → P
       back_at then = at_left _ (lowest_is left some left_fits) then
 
       pub not_first : 0 < depth
       not_first = back_at (λ z k hz zs hk c. omega (arith, hk))
 
-      module _ (m a t b : ℕ) (dm : depth ≡ m + 1) (e : a ≡ union_of o (get_or path m 0)) (h : t ≡ union_of s (get_or known m 0)) (c : b ≡ union_of l (get_or passed m 0)) where
+      module _ (m a t b : ℕ) (dm : depth ≡ m + 1) (e : a ≡ union_of o ((at path m).objects)) (h : t ≡ union_of s ((at path m).known)) (c : b ≡ union_of l ((at path m).passed)) where
         hm : m < depth
         hm = omega (arith, dm)
 
-        before : Step (get_or path m 0) (get_or known m 0) (get_or passed m 0)
+        before : Step ((at path m).objects) ((at path m).known) ((at path m).passed)
         before = p.steps m hm
 
         -- the last step leads to all that the one before it leads to
-        back : (u v : ℕ) → u < 64 → v < 64 → has u o ≡ true → has v (get_or known m 0) ≡ true → To u v
+        back : (u v : ℕ) → u < 64 → v < 64 → has u o ≡ true → has v ((at path m).known) ≡ true → To u v
         back u v hu hv z w = back_at (λ y k hy ys hk d. reach_on E low u y v hu hy hv (p.step.reach u y hu hy z ys)
-            (by_eq k m (λ j. before.reach y v hy hv (subst (λ (i : ℕ). has y (get_or path i 0) ≡ true) j d) w) (λ j. p.pairs k m y v (omega (arith, hk, dm, j)) hm hy hv d w)))
+            (by_eq k m (λ j. before.reach y v hy hv (subst (λ (i : ℕ). has y ((at path i).objects) ≡ true) j d) w) (λ j. p.pairs k m y v (omega (arith, hk, dm, j)) hm hy hv d w)))
 
-        pub walk_merge : Walk settled x rows path known passed a t b free done m
+        pub walk_merge : Walk settled x rows path a t b free done m
         walk_merge = record {
           deep = omega (arith, dm, p.deep);
           path_long = p.path_long;
-          known_long = p.known_long;
-          passed_long = p.passed_long;
           now = p.now;
           kept = p.kept;
           first = p.first;
           step = record {
-            fits = union_fits s (get_or known m 0) t h;
-            part = λ u hu z. in_union u o (get_or path m 0) a hu e z (p.step.part u hu) (before.part u hu);
-            inside = λ v hv z. in_union v s (get_or known m 0) t hv h z (p.step.inside v hv) (before.inside v hv);
-            own = λ u hu z. in_union u o (get_or path m 0) a hu e z (λ q. union_left u s (get_or known m 0) t hu h (p.step.own u hu q)) (λ q. union_right u s (get_or known m 0) t hu h (before.own u hu q));
-            covered = λ u hu z. in_union u o (get_or path m 0) a hu e z (λ q. union_left u l (get_or passed m 0) b hu c (p.step.covered u hu q)) (λ q. union_right u l (get_or passed m 0) b hu c (before.covered u hu q));
-            reach = λ u v hu hv z w. in_union u o (get_or path m 0) a hu e z
-                (λ q. in_union v s (get_or known m 0) t hv h w (p.step.reach u v hu hv q) (back u v hu hv q))
-                (λ q. in_union v s (get_or known m 0) t hv h w (p.ahead m u v hm hu hv q) (before.reach u v hu hv q));
-            taken = λ u v hu hv z w. in_union u l (get_or passed m 0) b hu c z
-                (λ q. union_left v s (get_or known m 0) t hv h (p.step.taken u v hu hv q w))
-                (λ q. union_right v s (get_or known m 0) t hv h (before.taken u v hu hv q w));
+            fits = union_fits s ((at path m).known) t h;
+            part = λ u hu z. in_union u o ((at path m).objects) a hu e z (p.step.part u hu) (before.part u hu);
+            inside = λ v hv z. in_union v s ((at path m).known) t hv h z (p.step.inside v hv) (before.inside v hv);
+            own = λ u hu z. in_union u o ((at path m).objects) a hu e z (λ q. union_left u s ((at path m).known) t hu h (p.step.own u hu q)) (λ q. union_right u s ((at path m).known) t hu h (before.own u hu q));
+            covered = λ u hu z. in_union u o ((at path m).objects) a hu e z (λ q. union_left u l ((at path m).passed) b hu c (p.step.covered u hu q)) (λ q. union_right u l ((at path m).passed) b hu c (before.covered u hu q));
+            reach = λ u v hu hv z w. in_union u o ((at path m).objects) a hu e z
+                (λ q. in_union v s ((at path m).known) t hv h w (p.step.reach u v hu hv q) (back u v hu hv q))
+                (λ q. in_union v s ((at path m).known) t hv h w (p.ahead m u v hm hu hv q) (before.reach u v hu hv q));
+            taken = λ u v hu hv z w. in_union u l ((at path m).passed) b hu c z
+                (λ q. union_left v s ((at path m).known) t hv h (p.step.taken u v hu hv q w))
+                (λ q. union_right v s ((at path m).known) t hv h (before.taken u v hu hv q w));
           };
           steps = λ i k. p.steps i (omega (arith, k, dm));
-          ahead = λ i u v k hu hv z w. in_union v s (get_or known m 0) t hv h w (p.ahead i u v (omega (arith, k, dm)) hu hv z) (p.pairs i m u v k hm hu hv z);
+          ahead = λ i u v k hu hv z w. in_union v s ((at path m).known) t hv h w (p.ahead i u v (omega (arith, k, dm)) hu hv z) (p.pairs i m u v k hm hu hv z);
           pairs = λ i j u v ij k. p.pairs i j u v ij (omega (arith, k, dm));
           visited = λ z hz i q d. or_cases (has z o) _ (p.visited z hz i q d)
-              (λ w. or_left (has z a) _ (union_left z o (get_or path m 0) a hz e w))
+              (λ w. or_left (has z a) _ (union_left z o ((at path m).objects) a hz e w))
               (λ w. any_elim depth _ w (λ k hk y. by_eq k m
-              (λ j. or_left (has z a) _ (union_right z o (get_or path m 0) a hz e (subst (λ (i : ℕ). has z (get_or path i 0) ≡ true) j y)))
+              (λ j. or_left (has z a) _ (union_right z o ((at path m).objects) a hz e (subst (λ (i : ℕ). has z ((at path i).objects) ≡ true) j y)))
               (λ j. or_right (has z a) _ (any_intro m _ k (omega (arith, hk, dm, j)) y))));
         }
 
@@ -350,41 +342,39 @@ module _ (groups links : List ℕ) (g : Leading groups links) where
       }
 
       -- of a later one: the step before it goes on
-      module _ (m t b : ℕ) (dm : depth ≡ m + 1) (h : t ≡ union_of s (get_or known m 0)) (c : b ≡ union_of s (get_or passed m 0)) where
+      module _ (m t b : ℕ) (dm : depth ≡ m + 1) (h : t ≡ union_of s ((at path m).known)) (c : b ≡ union_of s ((at path m).passed)) where
         hm' : m < depth
         hm' = omega (arith, dm)
 
-        prior : Step (get_or path m 0) (get_or known m 0) (get_or passed m 0)
+        prior : Step ((at path m).objects) ((at path m).known) ((at path m).passed)
         prior = p.steps m hm'
 
-        pub walk_pop : Walk settled x after path known passed (get_or path m 0) t b free done' m
+        pub walk_pop : Walk settled x after path ((at path m).objects) t b free done' m
         walk_pop = record {
           deep = omega (arith, dm, p.deep);
           path_long = p.path_long;
-          known_long = p.known_long;
-          passed_long = p.passed_long;
           now = settled_now;
           kept = still;
           first = p.first;
           step = record {
-            fits = union_fits s (get_or known m 0) t h;
+            fits = union_fits s ((at path m).known) t h;
             part = prior.part;
-            inside = λ v hv z. in_union v s (get_or known m 0) t hv h z (p.step.inside v hv) (prior.inside v hv);
-            own = λ u hu z. union_right u s (get_or known m 0) t hu h (prior.own u hu z);
-            covered = λ u hu z. union_right u s (get_or passed m 0) b hu c (prior.covered u hu z);
-            reach = λ u v hu hv z w. in_union v s (get_or known m 0) t hv h w (p.ahead m u v hm' hu hv z) (prior.reach u v hu hv z);
-            taken = λ u v hu hv z w. in_union u s (get_or passed m 0) b hu c z
-                (λ q. union_left v s (get_or known m 0) t hv h (closed u v hu hv q w))
-                (λ q. union_right v s (get_or known m 0) t hv h (prior.taken u v hu hv q w));
+            inside = λ v hv z. in_union v s ((at path m).known) t hv h z (p.step.inside v hv) (prior.inside v hv);
+            own = λ u hu z. union_right u s ((at path m).known) t hu h (prior.own u hu z);
+            covered = λ u hu z. union_right u s ((at path m).passed) b hu c (prior.covered u hu z);
+            reach = λ u v hu hv z w. in_union v s ((at path m).known) t hv h w (p.ahead m u v hm' hu hv z) (prior.reach u v hu hv z);
+            taken = λ u v hu hv z w. in_union u s ((at path m).passed) b hu c z
+                (λ q. union_left v s ((at path m).known) t hv h (closed u v hu hv q w))
+                (λ q. union_right v s ((at path m).known) t hv h (prior.taken u v hu hv q w));
           };
           steps = λ i k. p.steps i (omega (arith, k, dm));
-          ahead = λ i u v k hu hv z w. in_union v s (get_or known m 0) t hv h w (p.ahead i u v (omega (arith, k, dm)) hu hv z) (p.pairs i m u v k hm' hu hv z);
+          ahead = λ i u v k hu hv z w. in_union v s ((at path m).known) t hv h w (p.ahead i u v (omega (arith, k, dm)) hu hv z) (p.pairs i m u v k hm' hu hv z);
           pairs = λ i j u v ij k. p.pairs i j u v ij (omega (arith, k, dm));
           visited = λ z hz i q d. let w = in_neither z done o done' hz u' d in
               or_cases (has z o) _ (p.visited z hz i q w.0) (λ y. clash y w.1)
               (λ y. any_elim depth _ y (λ k hk e. by_eq k m
-              (λ j. or_left (has z (get_or path m 0)) _ (subst (λ (a : ℕ). has z (get_or path a 0) ≡ true) j e))
-              (λ j. or_right (has z (get_or path m 0)) _ (any_intro m _ k (omega (arith, hk, dm, j)) e))));
+              (λ j. or_left (has z ((at path m).objects)) _ (subst (λ (a : ℕ). has z ((at path a).objects) ≡ true) j e))
+              (λ j. or_right (has z ((at path m).objects)) _ (any_intro m _ k (omega (arith, hk, dm, j)) e))));
         }
 
         pub less_pop : to_do free m b < to_do free depth l

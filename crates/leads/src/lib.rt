@@ -45,6 +45,7 @@ pub fn group_words(
 {
     let mut leading: u64 = 0;
     let mut left = among;
+    // Stays: a loop over what is left: with a number its whole group is taken out, which an iterator over the set does not know of.
     while left != 0 {
         let x = sweeps::lowest(left);
         let group = group_at(joins, x);
@@ -58,23 +59,28 @@ pub fn group_words(
     leading
 }
 
-// From x on, along a path of steps. A step is numbers that lead to each other: whom they are known to lead to, and whose links are among
-// those. One that is led to and settled gives its whole row; one that is free begins a step of its own; any other is on the path, and
-// what leads back there is one step with the step before. When nobody is left to look at, the row of a step is known. `path`, `known`
-// and `passed` have room for the steps before the last.
+// A step of a walk: numbers that lead to each other, whom they are known to lead to, and whose links are among those.
+#[derive(Debug, Clone, Copy, PartialEq, Eq)]
+struct Step {
+    objects: u64,
+    known: u64,
+    passed: u64,
+}
+
+// From x on, along a path of steps. A number that is led to and settled gives its whole row; one that is free begins a step of its own; any
+// other is on the path, and what leads back there is one step with the step before. When nobody is left to look at, the row of a step is
+// known. `path` has room for the steps before the last.
 fn settle_from(
     groups: &[u64; 64],
     links: &[u64; 64],
     rows: &mut [u64; 64],
-    path: &mut [u64; 64],
-    known: &mut [u64; 64],
-    passed: &mut [u64; 64],
+    path: &mut [Step; 64],
     settled: u64,
     unsettled: u64,
     x: u8,
 ) -> u64
-    requires { Leading groups.now links.now × Settled groups.now links.now settled rows.old × (x < 64) × (has x (get_or groups.now x 0) ≡ true) × ((u : ℕ) → u < 64 → has u (get_or groups.now u 0) ≡ true → has u settled ≡ false → has u unsettled ≡ true) × (length path.old ≡ 64) × (length known.old ≡ 64) × (length passed.old ≡ 64) }
-    ensures { SettledWith groups.now links.now settled x result rows.new × (length path.new ≡ 64) × (length known.new ≡ 64) × (length passed.new ≡ 64) }
+    requires { Leading groups.now links.now × Settled groups.now links.now settled rows.old × (x < 64) × (has x (get_or groups.now x 0) ≡ true) × ((u : ℕ) → u < 64 → has u (get_or groups.now u 0) ≡ true → has u settled ≡ false → has u unsettled ≡ true) × (length path.old ≡ 64) }
+    ensures { SettledWith groups.now links.now settled x result rows.new × (length path.new ≡ 64) }
 {
     let mut objects = groups[x as usize];
     let mut s = links[x as usize];
@@ -98,9 +104,11 @@ fn settle_from(
             let group = groups[y as usize];
             let word = links[y as usize];
             if depth < 64 {
-                path[depth] = objects;
-                known[depth] = s;
-                passed[depth] = looked;
+                path[depth] = Step {
+                    objects: objects,
+                    known: s,
+                    passed: looked,
+                };
                 depth = depth + 1;
                 objects = group;
                 s = word;
@@ -114,9 +122,10 @@ fn settle_from(
         }
         if left != 0 {
             depth = depth - 1;
-            objects = mask::union(objects, path[depth]);
-            s = mask::union(s, known[depth]);
-            looked = mask::union(looked, passed[depth]);
+            let before = path[depth];
+            objects = mask::union(objects, before.objects);
+            s = mask::union(s, before.known);
+            looked = mask::union(looked, before.passed);
             continue 'walk;
         }
         sweeps::put_each(rows, objects, s);
@@ -125,9 +134,10 @@ fn settle_from(
             return done;
         }
         depth = depth - 1;
-        objects = path[depth];
-        looked = mask::union(s, passed[depth]);
-        s = mask::union(s, known[depth]);
+        let prior = path[depth];
+        objects = prior.objects;
+        looked = mask::union(s, prior.passed);
+        s = mask::union(s, prior.known);
     }
 }
 
@@ -137,24 +147,17 @@ pub fn led_words(groups: &[u64; 64], links: &[u64; 64], among: u64, leading: u64
     ensures { result ≡ led_words (word_edge links.now) among }
 {
     let mut rows = *groups;
-    let mut path = [0u64; 64];
-    let mut known = [0u64; 64];
-    let mut passed = [0u64; 64];
+    let mut path = [Step {
+        objects: 0,
+        known: 0,
+        passed: 0,
+    }; 64];
     let mut settled = mask::less(among, leading);
     let mut left = mask::less(among, settled);
+    // Stays: a loop over what is left: a walk settles more than the number that it begins at.
     while left != 0 {
         let x = sweeps::lowest(left);
-        settled = settle_from(
-            groups,
-            links,
-            &mut rows,
-            &mut path,
-            &mut known,
-            &mut passed,
-            settled,
-            left,
-            x,
-        );
+        settled = settle_from(groups, links, &mut rows, &mut path, settled, left, x);
         left = mask::less(among, settled);
     }
     rows

@@ -1,31 +1,19 @@
--- Lines put into a buffer one after the other: what a store of a word, of a line and of the next line leaves. A line is two or
+-- Lines put into a buffer one after the other: what a store of a line and of the next line leaves. A line is two or
 -- three stores in a run, and what is put behind what was put joins it. Assumes nothing.
 use mathlib.Core.Path.{◌≡◌, refl, sym, ◌∙◌, ap, ap₂}
 use mathlib.Core.Bool.{true, false}
 use mathlib.Core.List.{List, [], ◌∷◌, ◌++◌, append_assoc}
 use Prim.Native.Nat.{ℕ, zero, suc, ◌+◌, ◌*◌, ◌/◌, ◌%◌, ◌≤◌, ◌<◌}
-use native.Mathlib.Nat.{zero-add}
 use native.Mathlib.Numerals.{add-one, add-two}
 use native.Mathlib.Omega.{arith}
 use lib.Dec.{ltb}
-use lib.ListN.{length, get_or, set, take, drop, length-append}
-use lib.Seq.{length-take-le, take_at, drop_at, drop-drop, take_all, sets-eq, paste, paste-zero, paste-suc}
+use lib.ListN.{length, set, take, drop, length-append}
+use lib.Seq.{length-take-le, take_at, drop_at, drop-drop, sets-eq, paste-zero}
 use borrow.Author.Tests.{lt-ltb, le-ltb, ltb-true, ltb-false}
 use Rattle.mask.specs.Sets.{has}
 use Rattle.mask.proofs.Tests.{by_cases}
 use Rattle.lines.specs.Lines.{newline, decimal, number_line, number_lines}
 use Rattle.lines.specs.Helpers.{placed, begun, line_if}
-
--- a word -------------------------------------------------------------------------------
--- the loop that copies a word to the buffer's start: one more byte, and all
-pub word_more : (out word l : List ℕ) (i : ℕ) → i < length word → length word ≤ length out → l ≡ paste out 0 word i → set l i (get_or word i 0) ≡ paste out 0 word (i + 1)
-word_more out word l i h g e =
-    ap₂ (λ (x : List ℕ) (k : ℕ). set x k (get_or word i 0)) e (sym (zero-add i))
-    ∙ paste-suc out 0 word i 0 (omega arith) h ∙ ap (paste out 0 word) (sym (add-one i))
-
-pub word_all : (out word l : List ℕ) (i : ℕ) → i ≡ length word → l ≡ paste out 0 word i → l ≡ begun out word
-word_all out word l i e f =
-    f ∙ ap₂ (λ (x : List ℕ) (k : ℕ). x ++ drop k out) (take_all i word (omega arith)) (zero-add i ∙ e)
 
 -- a number's line -------------------------------------------------------------------------
 pub line_one : (n : ℕ) → n < 10 → number_line n ≡ (48 + n) ∷ newline ∷ []

@@ -1,7 +1,7 @@
 -- Document 01: "It prints `accepted` and then each bound object's number, decimal, ascending, one a line; or `refused N`."
-use Rattle.std.specs.Prelude.{true, false, List, [], ◌∷◌, ◌++◌, ℕ, zero, suc, ◌+◌, ◌/◌, ◌%◌, ltb, eqb}
+use Rattle.std.specs.Prelude.{true, false, List, [], ◌∷◌, ◌++◌, ℕ, zero, suc, ◌+◌, ◌/◌, ◌%◌, ltb, Result, Ok, Err}
 use Rattle.mask.specs.Sets.{has}
-use Rattle.lines.specs.declared.Decision.{Decision}
+use Rattle.lines.specs.declared.Refused.{Refused}
 
 abbrev pub newline : ℕ
 newline = 10
@@ -32,6 +32,7 @@ refused_line n = refused_word ++ number_line n
 unfoldable pub accepted_lines : ℕ → List ℕ
 accepted_lines bound = (accepted_word ++ (newline ∷ [])) ++ number_lines bound 64
 
--- what is printed of a decision
-unfoldable pub lines_of : Decision → List ℕ
-lines_of d = elim (eqb d.number 0) [ true ↦ accepted_lines d.bound | false ↦ refused_line d.number ]
+-- what is printed of a decision: the bound of an acceptance, or the refusal
+abbrev pub lines_of : Result ℕ Refused → List ℕ
+lines_of (Ok bound) = accepted_lines bound
+lines_of (Err why) = refused_line why.number

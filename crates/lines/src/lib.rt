@@ -1,16 +1,18 @@
 // The lines of a decision, put into a buffer one after the other. Each function says where the next line goes.
 #![tactic(auto)]
 
-ghost use Rattle.std.specs.Prelude.{◌≡◌, ◌+◌, ◌≤◌, ◌<◌, length};
+ghost use Rattle.std.specs.Prelude.{◌≡◌, ◌+◌, ◌≤◌, ◌<◌, length, IfErr};
 ghost use Rattle.lines.specs.Lines.{number_line, number_lines, refused_line, accepted_lines, lines_of};
 ghost use Rattle.lines.specs.Helpers.{placed, begun, line_if};
 
-// What was decided: 0 for accepted or the number of the refusal, and the bound, which is empty on every refusal.
-#[derive(Clone, Copy)]
-pub struct Decision {
+// A refusal, by the paper's number.
+#[derive(Debug, Clone, Copy, PartialEq, Eq)]
+pub struct Refused {
     pub number: u8,
-    pub bound: u64,
 }
+
+// What was decided: the bound of an acceptance, or the refusal.
+pub type Decision = Result<u64, Refused>;
 
 // A word first.
 fn put_word(out: &mut [u8], word: &[u8]) -> usize
@@ -18,12 +20,8 @@ fn put_word(out: &mut [u8], word: &[u8]) -> usize
     ensures next { result ≡ length word.now }
     ensures left { out.new ≡ begun out.old word.now }
 {
-    let mut i: usize = 0;
-    while i < word.len() {
-        out[i] = word[i];
-        i = i + 1;
-    }
-    i
+    out[..word.len()].copy_from_slice(word);
+    word.len()
 }
 
 // A number's line: one digit or two, and the newline.
@@ -62,10 +60,8 @@ fn put_numbers(out: &mut [u8], at: usize, set: u64) -> usize
     ensures left { out.new ≡ placed out.old at (number_lines set 64) }
 {
     let mut next = at;
-    let mut n: usize = 0;
-    while n < 64 {
-        next = put_if(out, next, set, n as u8);
-        n = n + 1;
+    for n in 0..64 {
+        next = put_if(out, next, set, n);
     }
     next
 }
@@ -92,12 +88,12 @@ fn put_accepted(out: &mut [u8], bound: u64) -> usize
 
 // What is printed of a decision.
 pub fn put_decision(out: &mut [u8], d: Decision) -> usize
-    requires { (256 ≤ length out.old) × (d.number < 100) }
+    requires { (256 ≤ length out.old) × IfErr d (λ why. why.number < 100) }
     ensures next { result ≡ length (lines_of d) }
     ensures left { out.new ≡ begun out.old (lines_of d) }
 {
-    if d.number != 0 {
-        return put_refused(out, d.number);
+    match d {
+        Ok(bound) => put_accepted(out, bound),
+        Err(why) => put_refused(out, why.number),
     }
-    put_accepted(out, d.bound)
 }

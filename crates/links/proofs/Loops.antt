@@ -5,7 +5,8 @@ use mathlib.Core.Bool.{Bool, false}
 use mathlib.Core.List.{List}
 use Prim.Native.Nat.{ℕ, ◌+◌, ◌/◌, ◌^◌, ◌≤◌, ◌<◌}
 use native.Mathlib.Omega.{arith}
-use lib.ListN.{replicate}
+use lib.ListN.{length, take, replicate}
+use Rattle.std.proofs.lemmas.List.{get_or-take, length-take}
 use Rattle.mask.specs.Sets.{has, bits, any_below}
 use Rattle.mask.proofs.Tests.{and_true}
 use Rattle.table.specs.Cells.{slot_of}
@@ -42,6 +43,10 @@ module _ (slots : List Capability) (among : ℕ) where
   slots_all n r h l p = let all : n ≡ 512 = omega arith in p ∙ ap slots_to all ∙ words_same _ _ (slot_link slots among)
 
 -- entries -----------------------------------------------------------------------
+-- those of a part from the first on are those of the whole
+pub taken : (m k : ℕ) (entries : List Capability) → k < length (take m entries) → slot_of (take m entries) k ≡ slot_of entries k
+taken m k entries h = get_or-take m entries k _ (omega (arith, length-take m entries, h))
+
 module _ (words : List ℕ) (entries : List Capability) (among x : ℕ) where
   pub entries_none : words ≡ words_of (word_edge words) → words ≡ joined words (entry_link entries 0 among x)
   unfolding joined entry_link

@@ -10,11 +10,14 @@ ghost use Rattle.links.specs.Helpers.{edge_if, link_if, spread_of};
 use table::{Capability, Table};
 
 // What rounds reach, and how many of them added something.
-#[derive(Clone, Copy)]
+#[derive(Debug, Clone, Copy, PartialEq, Eq)]
 pub struct Spread {
     pub set: u64,
     pub rounds: u8,
 }
+
+// No more rounds than this add something: each adds one of 64 numbers, and one is there before the first.
+pub const MOST_ROUNDS: u8 = 63;
 
 // Is rd, wr or tx among the rights?
 pub fn has_strong(rights: u8) -> bool
@@ -51,13 +54,10 @@ pub fn slot_links(slots: [Capability; 512], among: u64) -> [u64; 64]
     ensures { result ≡ link_words (slot_holding slots among) }
 {
     let mut r = [0u64; 64];
-    let mut k: usize = 0;
-    while k < 512 {
-        let c = slots[k];
+    for (k, c) in slots.iter().enumerate() {
         let holder = (k / 8) as u8;
         let on = mask::has(among, holder) & mask::has(among, c.target);
-        link_if(&mut r, on, holder, c);
-        k = k + 1;
+        link_if(&mut r, on, holder, *c);
     }
     r
 }
@@ -74,12 +74,9 @@ pub fn with_entries(
     ensures { result ≡ joined words (entry_link entries n among x) }
 {
     let mut r = words;
-    let mut i: usize = 0;
-    while i < n {
-        let c = entries[i];
+    for c in &entries[..n] {
         let on = mask::has(among, c.target);
-        link_if(&mut r, on, x, c);
-        i = i + 1;
+        link_if(&mut r, on, x, *c);
     }
     r
 }
@@ -88,10 +85,8 @@ pub fn with_entries(
 pub fn table_links(t: Table) -> [u64; 64]
     ensures { result ≡ link_words (table_holding t) }
 {
-    let records = t.records;
-    let slots = t.slots;
-    let born = access::start::born_outside(records, 0);
-    slot_links(slots, born)
+    let born = access::start::born_outside(t.records, 0);
+    slot_links(t.slots, born)
 }
 
 // A round: what is there, and what is one edge from it.
@@ -99,12 +94,10 @@ pub fn grown(words: &[u64; 64], s: u64) -> u64
     ensures { result ≡ grow (word_edge words.now) s }
 {
     let mut found = s;
-    let mut x: usize = 0;
-    while x < 64 {
+    for (x, word) in words.iter().enumerate() {
         if mask::has(s, x as u8) {
-            found = mask::union(found, words[x]);
+            found = mask::union(found, *word);
         }
-        x = x + 1;
     }
     found
 }
@@ -116,20 +109,20 @@ pub fn alone(x: u8) -> u64
     if x < 64 { mask::with(0, x) } else { 0 }
 }
 
-// What paths of edges reach from x, and in how many rounds: they are counted until one adds nothing. 64 numbers take at most 63.
+// What paths of edges reach from x, and in how many rounds: they are counted until one adds nothing.
 pub fn reach(words: &[u64; 64], x: u8) -> Spread
     ensures { result ≡ spread_of (word_edge words.now) x }
 {
     let mut s = alone(x);
-    let mut k: u8 = 0;
-    while k < 63 {
+    for k in 0..MOST_ROUNDS {
         let next = grown(words, s);
-        let one_more = k + 1;
         if next == s {
             return Spread { set: s, rounds: k };
         }
         s = next;
-        k = one_more;
     }
-    Spread { set: s, rounds: k }
+    Spread {
+        set: s,
+        rounds: MOST_ROUNDS,
+    }
 }

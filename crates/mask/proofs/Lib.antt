@@ -3,3 +3,4 @@ pub mod Below
 pub mod Bits
 pub mod UpTo
 pub mod Words
+pub mod Lowest

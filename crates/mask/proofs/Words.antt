@@ -6,7 +6,7 @@ use Prim.Native.Nat.{ℕ, zero, suc, ◌-◌, ◌*◌, ◌/◌, ◌%◌, ◌^◌
 use native.Mathlib.Nat.{mod-lt, mod-eq_of_lt}
 use native.Mathlib.Omega.{arith}
 use lib.Dec.{ltb, eqb}
-use lib.Bits.{bit_and, bit_or, bit_xor, and_shr, or_shr, xor_shr, and_mod, or_mod, xor_mod, and_lt, or_lt, and_mask, mask_lt, xor_add_and}
+use lib.Bits.{bit_and, bit_or, bit_xor, and_shr, or_shr, xor_shr, and_mod, or_mod, xor_mod, and_lt, or_lt, and_mask, xor_add_and}
 use borrow.Author.Tests.{ltb-true, ltb-false, eqb-true}
 use Rattle.mask.specs.Sets.{has, all_below, including, excluding, union_of, common_of, less_of, subset_of, disjoint_of}
 use Rattle.mask.proofs.Tests.{by_cases, same, same_eq, not_less}
@@ -111,10 +111,6 @@ none_shared a b ha hb = is_empty_lem _ (and_lt 64 a b ha hb) ∙ all_ext 64 _ _ 
 
 low_digit : (m n : ℕ) → eqb (bit_and (m / 2 ^ n) 1) 1 ≡ has n m
 low_digit m n = ap (λ (x : ℕ). eqb x 1) (and_mask (m / 2 ^ n) 1)
-
--- the shift stays below 64
-pub shift_lt : (n : ℕ) → bit_and n 63 < 64
-shift_lt n = mask_lt n 6
 
 pub has_is : (m n : ℕ) → m < 2 ^ 64 → (ltb n 64 && eqb (bit_and (m / 2 ^ bit_and n 63) 1) 1) ≡ has n m
 has_is m n hm = by_cases (ltb n 64)

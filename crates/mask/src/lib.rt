@@ -1,5 +1,6 @@
 // Sets of the numbers 0 to 63, held as 64 bits: bit n for number n, bit 0 least significant.
 // Every set step of the table goes through these functions.
+// Stays: a set is a bare u64 and no struct, as document 01 has it ("held as 64 bits, bit n for number n") and C's masks.
 #![tactic(auto)]
 
 ghost use Rattle.std.specs.Prelude.{◌≡◌, ◌<◌};

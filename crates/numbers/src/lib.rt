@@ -1,95 +1,126 @@
 // Every answer by its number: "Where an answer is an enum, a definition tells you this paper's number", document 01. 0 is done,
-// answered, accepted, read or written. 23 and 24 are document 02's, 2.7 and 2.8.
+// answered, accepted, read or written, and each refusal has its own. From 18 on they are document 02's.
 #![tactic(auto)]
 
-ghost use Rattle.std.specs.Prelude.{◌≡◌};
-ghost use Rattle.refusals.specs.Replies.{number};
+ghost use Rattle.std.specs.Prelude.{◌≡◌, ℕ};
+ghost use Rattle.refusals.specs.Replies.{number_of as reply_number};
 ghost use Rattle.access.specs.Answers.{access_number};
-ghost use Rattle.confinement.specs.Refusals.{verdict_number};
+ghost use Rattle.confinement.specs.Refusals.{refusal_number};
 ghost use Rattle.image.specs.Images.{read_number};
 ghost use Rattle.image_out.specs.Written.{write_number};
-ghost use Rattle.numbers.specs.Helpers.{place_of};
+ghost use Rattle.chains.specs.Answers.{chain_refusal_number};
+ghost use Rattle.take_grant.specs.Imports.{import_number};
+ghost use Rattle.numbers.specs.Answered.{answer_number};
 
-use access::AccessReply;
-use confinement::Verdict;
-use image::ReadReply;
-use image_out::WriteReply;
-use refusals::Reply;
+use access::AccessRefusal;
+use chains::ChainRefusal;
+use confinement::TestRefusal;
+use image::ReadRefusal;
+use image_out::WriteRefusal;
+use refusals::Refusal;
+use take_grant::ImportRefusal;
 
-// The numbers of the replies, each at the reply's place.
-const REPLIES: [u8; 11] = [0, 1, 2, 3, 4, 5, 6, 7, 8, 9, 24];
+// A refusal with a number on paper.
+pub trait Numbered {
+    ghost paper_number: { Self → ℕ };
 
-// The place of a reply among them.
-fn place_of(r: Reply) -> u8
-    ensures { result ≡ place_of r }
-{
-    match r {
-        Reply::Done => 0,
-        Reply::TableUnsound => 1,
-        Reply::FieldInvalid => 2,
-        Reply::ActorUnfit => 3,
-        Reply::SlotEmpty => 4,
-        Reply::TargetDead => 5,
-        Reply::RightAbsent => 6,
-        Reply::TargetPassive => 7,
-        Reply::ActorItself => 8,
-        Reply::NotInStock => 9,
-        Reply::TargetAlive => 10,
+    fn number(self) -> u8
+        ensures { result ≡ paper_number self };
+}
+
+// Of a request.
+impl Numbered for Refusal {
+    ghost paper_number = { reply_number };
+
+    fn number(self) -> u8 {
+        self as u8
     }
 }
 
-// A reply of a request. Its number is looked up: with 24 as an arm of the match, the compiler keeps two tables more in a step.
-pub fn of_reply(r: Reply) -> u8
-    ensures { result ≡ number r }
-{
-    let k = place_of(r) as usize;
-    REPLIES[k]
-}
+// Of potential access.
+impl Numbered for AccessRefusal {
+    ghost paper_number = { access_number };
 
-// An answer of potential access.
-pub fn of_access(r: AccessReply) -> u8
-    ensures { result ≡ access_number r }
-{
-    match r {
-        AccessReply::Done => 0,
-        AccessReply::TableUnsound => 1,
+    fn number(self) -> u8 {
+        match self {
+            AccessRefusal::TableUnsound => 1,
+        }
     }
 }
 
-// A verdict of the test.
-pub fn of_verdict(v: Verdict) -> u8
-    ensures { result ≡ verdict_number v }
-{
-    match v {
-        Verdict::Accepted => 0,
-        Verdict::TableUnsound => 1,
-        Verdict::MembersInvalid => 10,
-        Verdict::ListInvalid => 11,
-        Verdict::RightUnlisted => 12,
-        Verdict::MemberHeld => 13,
+// Of the confinement test.
+impl Numbered for TestRefusal {
+    ghost paper_number = { refusal_number };
+
+    fn number(self) -> u8 {
+        match self {
+            TestRefusal::TableUnsound => 1,
+            TestRefusal::MembersInvalid => 10,
+            TestRefusal::ListInvalid => 11,
+            TestRefusal::RightUnlisted => 12,
+            TestRefusal::MemberHeld => 13,
+        }
     }
 }
 
-// An answer of reading.
-pub fn of_read(r: ReadReply) -> u8
-    ensures { result ≡ read_number r }
-{
-    match r {
-        ReadReply::Done => 0,
-        ReadReply::TableUnsound => 1,
-        ReadReply::LengthWrong => 14,
-        ReadReply::VersionWrong => 15,
+// Of reading an image.
+impl Numbered for ReadRefusal {
+    ghost paper_number = { read_number };
+
+    fn number(self) -> u8 {
+        match self {
+            ReadRefusal::TableUnsound => 1,
+            ReadRefusal::LengthWrong => 14,
+            ReadRefusal::VersionWrong => 15,
+        }
     }
 }
 
-// An answer of writing.
-pub fn of_write(r: WriteReply) -> u8
-    ensures { result ≡ write_number r }
+// Of writing an image.
+impl Numbered for WriteRefusal {
+    ghost paper_number = { write_number };
+
+    fn number(self) -> u8 {
+        match self {
+            WriteRefusal::TableUnsound => 1,
+            WriteRefusal::BufferShort => 16,
+            WriteRefusal::MakerRecorded => 23,
+        }
+    }
+}
+
+// Of showing a chain: the numbers of a test that was refused are the test's own.
+impl Numbered for ChainRefusal {
+    ghost paper_number = { chain_refusal_number };
+
+    fn number(self) -> u8 {
+        match self {
+            ChainRefusal::TestRefused(why) => why.number(),
+            ChainRefusal::ObjectInvalid => 18,
+            ChainRefusal::OutsideBound => 19,
+        }
+    }
+}
+
+// Of bringing in a table of the older rigs.
+impl Numbered for ImportRefusal {
+    ghost paper_number = { import_number };
+
+    fn number(self) -> u8 {
+        match self {
+            ImportRefusal::LengthWrong => 20,
+            ImportRefusal::VersionWrong => 21,
+            ImportRefusal::ValueWrong => 22,
+        }
+    }
+}
+
+// The number of an answer: 0, or that of the refusal.
+pub fn number_of<T, E: Numbered + Copy>(answer: &Result<T, E>) -> u8
+    ensures { result ≡ answer_number E.paper_number answer.now }
 {
-    match r {
-        WriteReply::Done => 0,
-        WriteReply::TableUnsound => 1,
-        WriteReply::BufferShort => 16,
-        WriteReply::MakerRecorded => 23,
+    match answer {
+        Ok(_) => 0,
+        Err(why) => (*why).number(),
     }
 }

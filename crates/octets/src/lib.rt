@@ -8,17 +8,7 @@ ghost use Rattle.octets.specs.BigEndian.{byte_at, bytes_of, number_of};
 pub fn byte_at(bytes: &[u8], k: usize) -> u8
     ensures { result ≡ byte_at bytes.now k }
 {
-    if k < bytes.len() {
-        return bytes[k];
-    }
-    0
-}
-
-// A byte as a number of 64 bits.
-fn wide(b: u8) -> u64
-    ensures { result ≡ b }
-{
-    b as u64
+    bytes.get(k).copied().unwrap_or(0)
 }
 
 // The number that the bytes are, the most significant first.
@@ -26,11 +16,9 @@ pub fn number_of(bytes: &[u8]) -> u64
     requires { length bytes.now ≤ 8 }
     ensures { result ≡ number_of bytes.now }
 {
-    let mut n: u64 = 0;
-    let mut i: usize = 0;
-    while i < bytes.len() {
-        n = n * 256 + wide(bytes[i]);
-        i = i + 1;
+    let mut n = 0;
+    for b in bytes {
+        n = n * 256 + u64::from(*b);
     }
     n
 }
@@ -40,10 +28,8 @@ pub fn put_number(bytes: &mut [u8], n: u64)
     ensures { bytes.new ≡ bytes_of (length bytes.old) n }
 {
     let mut rest = n;
-    let mut i = bytes.len();
-    while 0 < i {
-        i = i - 1;
+    for i in (0..bytes.len()).rev() {
         bytes[i] = (rest % 256) as u8;
-        rest = rest / 256;
+        rest /= 256;
     }
 }

@@ -2,9 +2,11 @@
 // the image and of the buffer, two bytes each, and the image; of the second the 1,984 bytes of a table and the buffer's length.
 ghost use Rattle.std.specs.Prelude.{◌≡◌, length};
 
-use crate::{output, source};
-use cases::{digest, input};
-use image::{Loaded, Version};
+use crate::source;
+use cases::digest;
+use cases::input::Input;
+use image::Version;
+use numbers::number_of;
 use std::io::{self, Read, Write};
 use table::Table;
 
@@ -15,61 +17,52 @@ fn untouched() -> [u8; 4096]
     [0xA5; 4096]
 }
 
-// The image that comes next in the file and fills the slice.
-fn load<R: Read>(from: &mut R, bytes: &mut [u8]) -> io::Result<Loaded> {
-    source::fill(from, bytes)?;
-    Ok(image::read(bytes))
-}
-
-// Reads an image, prints the number and the table, and gives the table.
+// Reads an image, prints the number and the table, and gives the table: on a refusal the unborn one.
 fn read<R: Read, W: Write>(from: &mut R, out: &mut W, length: u16) -> io::Result<Table> {
-    let mut space = [0u8; 4096];
-    let n = (length as usize).min(4096);
-    let loaded = load(from, &mut space[..n])?;
-    let reply = loaded.reply;
-    let t = loaded.table;
-    output::number(out, numbers::of_read(reply) as u64)?;
-    output::digest(out, digest::of_table(t))?;
+    let loaded = source::image(from, length, image::read)?;
+    let number = number_of(&loaded);
+    let t = loaded.unwrap_or(table::unborn_table());
+    write!(out, " {number} {:08x}", digest::of_table(t))?;
     Ok(t)
 }
 
 // Writes a table into a buffer that is the start of a larger one, and prints the number and the larger one.
 fn write_as<W: Write>(out: &mut W, t: Table, length: u16, v: Version) -> io::Result<()> {
     let mut space = untouched();
-    let n = (length as usize).min(4096);
-    let reply = image_out::write(t, &mut space[..n], v);
-    output::number(out, numbers::of_write(reply) as u64)?;
-    output::digest(out, digest::of_space(&space))
+    let n = usize::from(length).min(4096);
+    let number = number_of(&image_out::write(t, &mut space[..n], v));
+    write!(out, " {number} {:08x}", digest::of_bytes(&space))
 }
 
-// The same as version 2, and then in the older form.
+// The same as version 2, and then in the older form, which ends the line.
 fn write<W: Write>(out: &mut W, t: Table, length: u16) -> io::Result<()> {
     write_as(out, t, length, Version::Two)?;
-    output::text(out, b" ")?;
-    write_as(out, t, length, Version::One)
+    write_as(out, t, length, Version::One)?;
+    writeln!(out)
 }
 
-pub fn case<R: Read, W: Write>(from: &mut R, out: &mut W, number: u64) -> io::Result<bool> {
-    let mut head = [0u8; 4];
-    if !source::fill(from, &mut head)? {
-        return Ok(false);
-    }
-    output::number(out, number)?;
-    let t = read(from, out, input::short(&head, 0))?;
-    output::text(out, b" ")?;
-    write(out, t, input::short(&head, 2))?;
-    output::text(out, b"\n")?;
-    Ok(true)
+fn line<R: Read, W: Write>(from: &mut R, out: &mut W, number: u64, head: &[u8]) -> io::Result<()> {
+    let mut lengths = Input::new(head);
+    write!(out, "{number}")?;
+    let t = read(from, out, lengths.short())?;
+    write(out, t, lengths.short())
 }
 
-pub fn raw_case<R: Read, W: Write>(from: &mut R, out: &mut W, number: u64) -> io::Result<bool> {
-    let mut bytes = [0u8; 1986];
-    if !source::fill(from, &mut bytes)? {
-        return Ok(false);
-    }
-    output::number(out, number)?;
-    let t = input::raw_table(&bytes);
-    write(out, t, input::short(&bytes, 1984))?;
-    output::text(out, b"\n")?;
-    Ok(true)
+pub fn all<R: Read, W: Write>(from: &mut R, out: &mut W) -> io::Result<u64> {
+    source::cases::<4, _, _, _>(from, out, |from, out, number, head| {
+        line(from, out, number, head)
+    })
+}
+
+fn raw_line<W: Write>(out: &mut W, number: u64, bytes: &[u8]) -> io::Result<()> {
+    let mut case = Input::new(bytes);
+    let t = case.table();
+    write!(out, "{number}")?;
+    write(out, t, case.short())
+}
+
+pub fn raw<R: Read, W: Write>(from: &mut R, out: &mut W) -> io::Result<u64> {
+    source::cases::<1986, _, _, _>(from, out, |_, out, number, bytes| {
+        raw_line(out, number, bytes)
+    })
 }

@@ -1,33 +1,28 @@
-// Potential access, by the rules and by groups. A case is the 1,984 bytes of a table.
-use crate::{output, source};
-use access::Access;
-use cases::{digest, input};
+// Potential access, by the rules or by groups, as `find` finds it. A case is the 1,984 bytes of a table.
+use crate::source;
+use access::AccessRefusal;
+use cases::digest;
+use cases::input::Input;
+use numbers::number_of;
 use std::io::{self, Read, Write};
+use table::Table;
 
-fn answer<W: Write>(out: &mut W, number: u64, found: Access) -> io::Result<()> {
-    let reply = found.reply;
-    let rows = found.rows;
-    output::number(out, number)?;
-    output::number(out, numbers::of_access(reply) as u64)?;
-    output::digest(out, digest::of_words(&rows))?;
-    output::text(out, b"\n")
+type Answer = Result<[u64; 256], AccessRefusal>;
+
+fn line<W: Write>(out: &mut W, number: u64, found: Answer) -> io::Result<()> {
+    let reply = number_of(&found);
+    let rows = found.unwrap_or([0; 256]);
+    writeln!(out, "{number} {reply} {:08x}", digest::of_words(&rows))
 }
 
-pub fn case<R: Read, W: Write>(
+pub fn all<R: Read, W: Write, F: Fn(Table) -> Answer>(
     from: &mut R,
     out: &mut W,
-    number: u64,
-    by_groups: bool,
-) -> io::Result<bool> {
-    let mut bytes = [0u8; 1984];
-    if !source::fill(from, &mut bytes)? {
-        return Ok(false);
-    }
-    let t = input::raw_table(&bytes);
-    if by_groups {
-        answer(out, number, groups::potential_access(t))?;
-    } else {
-        answer(out, number, access::potential_access(t))?;
-    }
-    Ok(true)
+    find: F,
+) -> io::Result<u64>
+    requires { F.IsAlwaysCallable find }
+{
+    source::cases::<1984, _, _, _>(from, out, |_, out, number, bytes| {
+        line(out, number, find(Input::new(bytes).table()))
+    })
 }

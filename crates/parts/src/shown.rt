@@ -1,39 +1,33 @@
 // Chains shown. A case is that of a confinement test, and the object.
-use crate::{output, source};
-use cases::{digest, input};
+use crate::source;
+use cases::digest;
+use cases::input::Input;
+use numbers::number_of;
 use std::io::{self, Read, Write};
 
-// As many of the numbers as the chain has.
-fn put_numbers<W: Write>(out: &mut W, numbers: [u8; 63], count: u8) -> io::Result<()> {
-    let mut i: u8 = 0;
-    while i < 63 {
-        if i < count {
-            output::number(out, numbers[i as usize] as u64)?;
+fn line<W: Write>(out: &mut W, number: u64, bytes: &[u8]) -> io::Result<()> {
+    let mut case = Input::new(bytes);
+    let t = case.table();
+    let members = case.set();
+    let list = case.entry_list();
+    let shown = chains::chain(t, members, list, case.byte());
+    let reply = number_of(&shown);
+    let (numbers, count) = match shown {
+        Ok(chain) => {
+            let numbers = chain.numbers;
+            (numbers, chain.count)
         }
-        i = i + 1;
+        Err(_) => ([0; 63], 0),
+    };
+    write!(out, "{number} {reply} {count} ")?;
+    for n in numbers.iter().take(usize::from(count)) {
+        write!(out, "{n} ")?;
     }
-    Ok(())
+    writeln!(out, "{:08x}", digest::of_bytes(&numbers))
 }
 
-fn answer<W: Write>(out: &mut W, number: u64, s: &[u8]) -> io::Result<()> {
-    let t = input::raw_table(s);
-    let object = input::byte(s, 2009);
-    let shown = chains::chain(t, input::set(s, 1984), input::entry_list(s, 1992), object);
-    let reply = shown.reply;
-    let numbers = shown.numbers;
-    output::number(out, number)?;
-    output::number(out, answers::of_chain(reply) as u64)?;
-    output::number(out, shown.count as u64)?;
-    put_numbers(out, numbers, shown.count)?;
-    output::digest(out, digest::of_bytes(&numbers))?;
-    output::text(out, b"\n")
-}
-
-pub fn case<R: Read, W: Write>(from: &mut R, out: &mut W, number: u64) -> io::Result<bool> {
-    let mut bytes = [0u8; 2010];
-    if !source::fill(from, &mut bytes)? {
-        return Ok(false);
-    }
-    answer(out, number, &bytes)?;
-    Ok(true)
+pub fn all<R: Read, W: Write>(from: &mut R, out: &mut W) -> io::Result<u64> {
+    source::cases::<2010, _, _, _>(from, out, |_, out, number, bytes| {
+        line(out, number, bytes)
+    })
 }

@@ -1,36 +1,35 @@
-// Confinement tests, by rounds and by groups. A case is the 1,984 bytes of a table, the members (8 bytes), and a list: a count and eight
-// entries.
-use crate::{output, source};
-use cases::input;
-use confinement::Tested;
+// Confinement tests, by rounds or by groups, as `test` makes them. A case is the 1,984 bytes of a table, the members (8 bytes), and a list:
+// a count and eight entries.
+use crate::source;
+use bounds::{EntryList, Grown};
+use cases::input::Input;
+use confinement::TestRefusal;
+use numbers::number_of;
 use std::io::{self, Read, Write};
+use table::Table;
 
-fn answer<W: Write>(out: &mut W, number: u64, tested: Tested) -> io::Result<()> {
-    let verdict = tested.verdict;
-    output::number(out, number)?;
-    output::number(out, numbers::of_verdict(verdict) as u64)?;
-    output::number(out, tested.rounds as u64)?;
-    output::set(out, tested.bound)?;
-    output::text(out, b"\n")
+type Tested = Result<Grown, TestRefusal>;
+
+fn line<W: Write>(out: &mut W, number: u64, tested: Tested) -> io::Result<()> {
+    let verdict = number_of(&tested);
+    let Grown { bound, rounds } = tested.unwrap_or(Grown {
+        bound: 0,
+        rounds: 0,
+    });
+    writeln!(out, "{number} {verdict} {rounds} {bound:016x}")
 }
 
-pub fn case<R: Read, W: Write>(
+pub fn all<R: Read, W: Write, F: Fn(Table, u64, EntryList) -> Tested>(
     from: &mut R,
     out: &mut W,
-    number: u64,
-    by_groups: bool,
-) -> io::Result<bool> {
-    let mut bytes = [0u8; 2009];
-    if !source::fill(from, &mut bytes)? {
-        return Ok(false);
-    }
-    let t = input::raw_table(&bytes);
-    let members = input::set(&bytes, 1984);
-    let list = input::entry_list(&bytes, 1992);
-    if by_groups {
-        answer(out, number, group_tests::test(t, members, list))?;
-    } else {
-        answer(out, number, confinement::test(t, members, list))?;
-    }
-    Ok(true)
+    test: F,
+) -> io::Result<u64>
+    requires { F.IsAlwaysCallable test }
+{
+    source::cases::<2009, _, _, _>(from, out, |_, out, number, bytes| {
+        let mut case = Input::new(bytes);
+        let t = case.table();
+        let members = case.set();
+        line(out, number, test(t, members, case.entry_list()))
+    })
 }

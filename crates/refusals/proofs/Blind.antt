@@ -11,8 +11,9 @@ use Rattle.table.specs.Cells.{record_at, slot_at}
 use Rattle.rights.specs.declared.Need.TheVariants.{Write}
 use Rattle.rights.specs.Rows.{need_met}
 use Rattle.requests.specs.Asks.{reclaim}
-use Rattle.refusals.specs.declared.Reply.{Reply}
-use Rattle.refusals.specs.declared.Reply.TheVariants.{Done, ActorUnfit}
+use Rattle.std.specs.Prelude.{Err}
+use Rattle.refusals.specs.declared.Refusal.TheVariants.{ActorUnfit}
+use Rattle.refusals.specs.Replies.{Reply, Done}
 use Rattle.refusals.specs.Refusals.{refuse, no_slot, no_object, bad_field, unfit, dead, through, through_slot, target_of, target_record, later_rows, refusal}
 use Rattle.refusals.specs.Exactness.{ReclaimBlind}
 use Rattle.refusals.proofs.Rows.{slot_placed}
@@ -28,5 +29,5 @@ pub reclaim_blind : ReclaimBlind
 unfolding ReclaimBlind refusal bad_field
 reclaim_blind t u a s p q e f g = rw (p, q) (by_cases (no_object a || no_slot s)
     (λ h. rw h refl)
-    (λ h. rw h (ap₂ (λ (r : Record) (z : Reply). refuse (unfit r) ActorUnfit z) e
+    (λ h. rw h (ap₂ (λ (r : Record) (z : Reply). refuse (unfit r) (Err ActorUnfit) z) e
     (later_blind t u a s (f s (slot_placed s (or_none (no_object a) (no_slot s) h).1)) g))))

@@ -1,41 +1,58 @@
 -- Lists of pairs: the code's count and array of four as the list that a definition reads. Whether a list is refused, and what a
 -- list that is not refused has. By induction on the count. Assumes nothing.
 use mathlib.Core.Path.{◌≡◌, refl, sym, ◌∙◌, ap}
-use mathlib.Core.Bool.{Bool, true, false, ◌&&◌, ◌||◌}
+use mathlib.Core.Bool.{Bool, true, false, false≢true}
+use mathlib.Core.List.{List, [], ◌∷◌}
+use Rattle.std.specs.Prelude.{IsTrue, ◌↔◌, Any}
 use Prim.Native.Nat.{ℕ, zero, suc, ◌≤◌, ◌<◌}
 use native.Mathlib.Omega.{arith}
 use lib.Dec.{ltb}
-use lib.ListN.{length}
-use borrow.Author.Tests.{ltb-false, lt-ltb}
-use Rattle.mask.proofs.Tests.{or_left, or_none, or_false, or_assoc}
+use lib.ListN.{length, get_or, take}
+use Rattle.std.proofs.lemmas.List.{length-take-le, get_or-take}
+use borrow.Author.Tests.{ltb-false, lt-ltb, le-ltb}
+use Rattle.mask.proofs.Tests.{by_cases, or_left, or_right, or_none}
 use Rattle.table.specs.Lists.{tabulate}
-use Rattle.table.proofs.Lists.{length_tabulate}
+use Rattle.table.proofs.Lists.{length_tabulate, as_tabulate}
 use Rattle.requests.specs.declared.Pair.{Pair}
 use Rattle.requests.specs.declared.PairList.{PairList}
 use Rattle.requests.specs.Asks.{pair_at, pairs_of}
 use Rattle.refusals.specs.Refusals.{no_slot, bad_slots, bad_list}
-use Rattle.refusals.specs.Helpers.{PairsFit}
+use Rattle.refusals.specs.Helpers.{pair_bad, PairsFit}
 
 -- whether a list is refused ------------------------------------------------------------------
-abbrev pair_bad : Pair → Bool
-pair_bad p = no_slot p.from || no_slot p.to
+some_bad : (xs : List Pair) (k : ℕ) (x : Pair) → k < length xs → get_or xs k x ≡ x → pair_bad x ≡ true → bad_slots xs ≡ true
+unfolding bad_slots
+some_bad [] k x h e f = absurd (omega arith)
+some_bad (p ∷ ps) zero x h e f = or_left (pair_bad p) (bad_slots ps) (ap pair_bad e ∙ f)
+some_bad (p ∷ ps) (suc k) x h e f = or_right (pair_bad p) (bad_slots ps) (some_bad ps k x (omega arith) e f)
 
--- the tests of the first n of four pairs, n at most 4
-abbrev four_bad : ℕ → (ℕ → Pair) → Bool
-four_bad n f = ltb 0 n && pair_bad (f 0) || ltb 1 n && pair_bad (f 1) || ltb 2 n && pair_bad (f 2) || ltb 3 n && pair_bad (f 3)
+bad_some : (xs : List Pair) → bad_slots xs ≡ true → Any (λ p. pair_bad p ≡ true) xs
+unfolding bad_slots
+bad_some [] e = absurd (false≢true e)
+bad_some (p ∷ ps) e = by_cases (pair_bad p)
+    (λ f. (0, p, omega arith, refl, f))
+    (λ f. let a = bad_some ps (rw f at e) in (suc a.0, a.1, omega (arith, a.2), a.3, a.4))
 
-four_bad_lem : (n : ℕ) (f : ℕ → Pair) → n ≤ 4 → four_bad n f ≡ bad_list (tabulate n f)
-unfolding bad_list bad_slots tabulate
-four_bad_lem zero f h = refl
-four_bad_lem (suc zero) f h = simp or_false
-four_bad_lem (suc (suc zero)) f h = simp (or_false, or_assoc)
-four_bad_lem (suc (suc (suc zero))) f h = simp (or_false, or_assoc)
-four_bad_lem (suc (suc (suc (suc zero)))) f h = simp (or_false, or_assoc)
-four_bad_lem (suc (suc (suc (suc (suc n))))) f h = absurd (omega arith)
+-- what the code found of the pairs
+pub slots_found : (xs : List Pair) (b : Bool) → IsTrue b ↔ Any (λ p. pair_bad p ≡ true) xs → b ≡ bad_slots xs
+slots_found xs true h = let a = h.0 refl in sym (some_bad xs a.0 a.1 a.2 a.3 a.4)
+slots_found xs false h = by_cases (bad_slots xs) (λ e. absurd (false≢true (h.1 (bad_some xs e)))) (λ e. sym e)
 
-pub short_bad : (l : PairList) → l.count ≤ 4 → four_bad l.count (pair_at l) ≡ bad_list (pairs_of l)
+-- the pairs below a count that the array has
+pub pairs_taken : (l : PairList) → l.count ≤ 4 → length l.pairs ≡ 4 → take l.count l.pairs ≡ pairs_of l
 unfolding pairs_of
-short_bad l h = four_bad_lem l.count (pair_at l) h
+pairs_taken l h z = as_tabulate l.count (pair_at l) (record { from = 0; to = 0 }) (take l.count l.pairs)
+    (length-take-le l.count l.pairs (omega arith)) (λ k b. get_or-take l.count l.pairs k _ b)
+
+pairs_few : (l : PairList) → l.count ≤ 4 → length (pairs_of l) ≤ 4
+unfolding pairs_of
+pairs_few l h = omega (arith, length_tabulate l.count (pair_at l))
+
+pub short_bad : (l : PairList) (b : Bool) → l.count ≤ 4 → length l.pairs ≡ 4 → b ≡ bad_slots (take l.count l.pairs) → b ≡ bad_list (pairs_of l)
+unfolding bad_list
+short_bad l b h z e =
+    e ∙ ap bad_slots (pairs_taken l h z)
+    ∙ rw (le-ltb 4 (length (pairs_of l)) (pairs_few l h)) refl
 
 pub long_bad : (l : PairList) → 4 < l.count → true ≡ bad_list (pairs_of l)
 unfolding bad_list pairs_of

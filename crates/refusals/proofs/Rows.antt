@@ -1,6 +1,6 @@
 -- Rows 2 to 6 for a slot, by their five tests: what the check of a slot tells of them, and that a last check after them decides
--- exactly where it says "done". By the cases of the five tests. Assumes nothing.
-use mathlib.Core.Path.{◌≡◌, refl, sym, ◌∙◌, ap, ap₂}
+-- exactly where they are passed. By the cases of the five tests. Assumes nothing.
+use mathlib.Core.Path.{◌≡◌, refl, sym, ◌∙◌, ap}
 use mathlib.Core.Logic.{◌≢◌}
 use mathlib.Core.Bool.{Bool, true, false, not, ◌&&◌, ◌||◌, false≢true}
 use Prim.Native.Nat.{ℕ, ◌≤◌, ◌<◌}
@@ -16,12 +16,12 @@ use Rattle.table.proofs.Cells.{Sized}
 use Rattle.table.proofs.SoundFacts.{pos_born}
 use Rattle.rights.specs.declared.Need.{Need}
 use Rattle.rights.specs.Rows.{need_met}
-use Rattle.refusals.specs.declared.Reply.{Reply}
-use Rattle.refusals.specs.declared.Reply.TheVariants.{Done, FieldInvalid, ActorUnfit, SlotEmpty, TargetDead, RightAbsent, TargetAlive}
-use Rattle.refusals.specs.declared.SlotCheck.{SlotCheck}
-use Rattle.refusals.specs.Replies.{is_done}
-use Rattle.refusals.specs.Refusals.{refuse, no_object, no_slot, unfit, alive, other_status, wrong_status, through, target_of, target_record, rights_of, through_slot}
-use Rattle.refusals.specs.Helpers.{first_of, bad_place, slot_rows, slot_check_of, SlotChecked}
+use Rattle.std.specs.Prelude.{Ok, Err}
+use Rattle.refusals.specs.declared.Refusal.{Refusal}
+use Rattle.refusals.specs.declared.Refusal.TheVariants.{FieldInvalid, ActorUnfit, SlotEmpty, TargetDead, RightAbsent, TargetAlive}
+use Rattle.refusals.specs.Replies.{Reply, Done, is_done}
+use Rattle.refusals.specs.Refusals.{refuse, no_object, no_slot, unfit, alive, other_status, wrong_status, through, target_record, rights_of, through_slot}
+use Rattle.refusals.specs.Helpers.{first_of, bad_place, slot_rows, opened_at, slot_check_of, SlotChecked}
 use Rattle.refusals.proofs.Targets.{target_below}
 
 -- one check
@@ -37,18 +37,18 @@ pub wrong_refuses : (wanted : ℕ) → is_done (wrong_status wanted) ≡ false
 unfolding wrong_status
 wrong_refuses wanted = by_cases (eqb wanted alive) (λ e. rw (e, wrong_status) refl) (λ e. rw (e, wrong_status) refl)
 
-pub wrong_dead : (wanted : ℕ) → wanted ≡ alive → TargetDead ≡ wrong_status wanted
+pub wrong_dead : (wanted : ℕ) → wanted ≡ alive → Err TargetDead ≡ wrong_status wanted
 unfolding wrong_status
 wrong_dead wanted e = rw (eq-eqb wanted alive e, wrong_status) refl
 
-pub wrong_alive : (wanted : ℕ) → wanted ≢ alive → TargetAlive ≡ wrong_status wanted
+pub wrong_alive : (wanted : ℕ) → wanted ≢ alive → Err TargetAlive ≡ wrong_status wanted
 unfolding wrong_status
 wrong_alive wanted e = rw (ne_eqb wanted alive e, wrong_status) refl
 
 module _ (why : Reply) (turns : is_done why ≡ false) where
   abbrev first_then : Bool → Bool → Bool → Bool → Bool → Reply → Reply
   first_then bad unfitted empty other unable last =
-      refuse bad FieldInvalid (refuse unfitted ActorUnfit (refuse empty SlotEmpty (refuse other why (refuse unable RightAbsent last))))
+      refuse bad (Err FieldInvalid) (refuse unfitted (Err ActorUnfit) (refuse empty (Err SlotEmpty) (refuse other why (refuse unable (Err RightAbsent) last))))
 
   then_last : (bad unfitted empty other unable : Bool) (last : Reply) → is_done (first_of bad unfitted empty other why unable) ≡ true
       → first_then bad unfitted empty other unable last ≡ last
@@ -67,13 +67,6 @@ module _ (why : Reply) (turns : is_done why ≡ false) where
   then_first false false false true unable last e = refl
   then_first false false false false true last e = refl
   then_first false false false false false last e = absurd (false≢true (sym e))
-
-  first_done : (unfitted empty other unable : Bool) → not (unfitted || empty || other || unable) ≡ is_done (first_of false unfitted empty other why unable)
-  first_done true empty other unable = refl
-  first_done false true other unable = refl
-  first_done false false true unable = sym turns
-  first_done false false false true = refl
-  first_done false false false false = refl
 
 -- what the check of a slot tells -------------------------------------------------------------------------------------
 pub record Placed (a s : ℕ) (bad : Bool) : Type 0 where
@@ -94,66 +87,53 @@ slot_placed j e = omega (arith, ltb-false 7 j e)
 pub slots_placed : (i j : ℕ) → (no_slot i || no_slot j) ≡ false → (i < 8) × (j < 8)
 slots_placed i j e = let p = or_none (no_slot i) (no_slot j) e in (slot_placed i p.0, slot_placed j p.1)
 
+-- a place that is none, or a field out of range
 pub check_invalid : (t : Table) (a s : ℕ) (bad : Bool) (wanted : ℕ) (need : Need) → bad_place a s bad ≡ true
-    → SlotChecked t a s bad wanted need (record { reply = FieldInvalid; done = false; target = 0; rights = 0; kind = 0 })
+    → SlotChecked t a s bad wanted need (Err FieldInvalid)
 unfolding slot_rows slot_check_of
-check_invalid t a s bad wanted need e = record {
-  whole = rw (e, slot_check_of) refl;
-  reply = rw e refl;
-  done = rw e refl;
-  target = λ h. absurd (false≢true h);
-  rights = λ h. absurd (false≢true h);
-  kind = λ h. absurd (false≢true h);
-  actor = λ h. absurd (false≢true h);
-  slot = λ h. absurd (false≢true h);
-  fields = λ h. absurd (false≢true h);
-  within = λ h. absurd (false≢true h);
-}
+check_invalid t a s bad wanted need e = record { whole = rw (e, slot_check_of) refl; opened = tt; refused = rw e refl }
 
--- the result put together of its fields
-seen_is : {r r' : Reply} {d d' : Bool} (g h k : ℕ) → r ≡ r' → d ≡ d'
-    → ◌≡◌ {A = SlotCheck} (record { reply = r; done = d; target = g; rights = h; kind = k }) (record { reply = r'; done = d'; target = g; rights = h; kind = k })
-seen_is g h k e f = ap₂ {C = SlotCheck} (λ (r : Reply) (d : Bool). record { reply = r; done = d; target = g; rights = h; kind = k }) e f
-
-seen_place : (t : Table) (a s : ℕ) (bad : Bool) (wanted : ℕ) (need : Need) → bad_place a s bad ≡ false
-    → ◌≡◌ {A = SlotCheck} (record { reply = slot_rows t a s bad wanted need; done = is_done (slot_rows t a s bad wanted need); target = target_of t a s; rights = rights_of t a s; kind = (target_record t a s).kind }) (slot_check_of t a s bad wanted need)
-unfolding slot_check_of
-seen_place t a s bad wanted need f = rw (f, slot_check_of) refl
-
--- `met` and `born` are what the code found of the right and of the target
+-- `met` and `born` are what the code found of the right and of the target, `why` of the wanted status, `reply` of rows 3 to 6
 module _ (t : Table) (a s : ℕ) (bad : Bool) (wanted : ℕ) (need : Need) (met born : Bool) (why reply : Reply) where
-  abbrev other : Bool
-  other = born && not (eqb (target_record t a s).status wanted)
+  abbrev first_row : Reply
+  first_row = first_of false (unfit (record_at t a)) (is_empty (slot_at t a s)) (born && not (eqb (target_record t a s).status wanted)) why (not met)
 
-  abbrev saw : SlotCheck
-  saw = record {
-    reply = reply;
-    done = not (unfit (record_at t a) || is_empty (slot_at t a s) || other || not met);
-    target = target_of t a s;
-    rights = rights_of t a s;
-    kind = (target_record t a s).kind;
-  }
+  pub record Found : Type 0 where
+    pub placed : bad_place a s bad ≡ false
+    pub right : met ≡ need_met need (rights_of t a s)
+    pub target : born ≡ is_born (target_record t a s)
+    pub other : why ≡ wrong_status wanted
+    pub rows : reply ≡ first_row
 
-  pub check_seen : Sized t → sound t ≡ true → bad_place a s bad ≡ false → met ≡ need_met need (rights_of t a s) → born ≡ is_born (target_record t a s)
-      → why ≡ wrong_status wanted → reply ≡ first_of false (unfit (record_at t a)) (is_empty (slot_at t a s)) other why (not met)
-      → SlotChecked t a s bad wanted need saw
+  first_slot_row : Found → reply ≡ slot_rows t a s bad wanted need
   unfolding slot_rows through_slot through
-  check_seen z ok f m b y e =
-      let p = placed a s bad f in
-      let r : first_of false (unfit (record_at t a)) (is_empty (slot_at t a s)) other why (not met) ≡ slot_rows t a s bad wanted need = rw (f, m, b, y) refl in
-      let d = first_done why (ap is_done y ∙ wrong_refuses wanted) (unfit (record_at t a)) (is_empty (slot_at t a s)) other (not met) ∙ ap is_done r in
+  first_slot_row f = f.rows ∙ rw (f.placed, f.right, f.target, f.other) refl
+
+  pub check_passed : Found → Sized t → sound t ≡ true → reply ≡ Done → SlotChecked t a s bad wanted need (Ok (opened_at t a s))
+  unfolding slot_check_of
+  check_passed f z ok e =
+      let p = placed a s bad f.placed in
+      let r : slot_rows t a s bad wanted need ≡ Done = sym (first_slot_row f) ∙ e in
       record {
-        whole = seen_is (target_of t a s) (rights_of t a s) (target_record t a s).kind (e ∙ r) d ∙ seen_place t a s bad wanted need f;
-        reply = e ∙ r;
-        done = d;
-        target = λ h. refl;
-        rights = λ h. refl;
-        kind = λ h. refl;
-        actor = λ h. p.actor;
-        slot = λ h. p.slot;
-        fields = λ h. p.fields;
-        within = λ h. target_below t a s z ok p.slot;
+        whole = rw (r, slot_check_of) refl;
+        opened = record {
+          reply = r;
+          target = refl;
+          rights = refl;
+          kind = refl;
+          actor = p.actor;
+          slot = p.slot;
+          fields = p.fields;
+          within = target_below t a s z ok p.slot;
+        };
+        refused = tt;
       }
+
+  pub check_failed : Found → (x : Refusal) → reply ≡ Err x → SlotChecked t a s bad wanted need (Err x)
+  unfolding slot_check_of
+  check_failed f x e =
+      let r : slot_rows t a s bad wanted need ≡ Err x = sym (first_slot_row f) ∙ e in
+      record { whole = rw (r, slot_check_of) refl; opened = tt; refused = r }
 
 -- rows 5 and 24 passed: a born target has the wanted status
 pub status_wanted : (wanted : ℕ) (r : Record) → 1 ≤ r.status → r.status ≤ 2 → other_status wanted r ≡ false → r.status ≡ wanted
@@ -162,7 +142,7 @@ status_wanted wanted r l h e = by_eq r.status wanted (λ q. q)
 
 -- rows 2 to 6 for the actor's slot s, and a last check after them --------------------------------------------
 abbrev pub rows_then : Table → ℕ → ℕ → Bool → ℕ → Need → Reply → Reply
-rows_then t a s bad wanted need last = refuse (bad_place a s bad) FieldInvalid (refuse (unfit (record_at t a)) ActorUnfit (through_slot t a s wanted need last))
+rows_then t a s bad wanted need last = refuse (bad_place a s bad) (Err FieldInvalid) (refuse (unfit (record_at t a)) (Err ActorUnfit) (through_slot t a s wanted need last))
 
 pub rows_last : (t : Table) (a s : ℕ) (bad : Bool) (wanted : ℕ) (need : Need) (last : Reply) → is_done (slot_rows t a s bad wanted need) ≡ true → rows_then t a s bad wanted need last ≡ last
 unfolding slot_rows through_slot through
@@ -173,7 +153,3 @@ pub rows_first : (t : Table) (a s : ℕ) (bad : Bool) (wanted : ℕ) (need : Nee
 unfolding slot_rows through_slot through
 rows_first t a s bad wanted need last e =
     then_first (wrong_status wanted) (wrong_refuses wanted) (bad_place a s bad) (unfit (record_at t a)) (is_empty (slot_at t a s)) (other_status wanted (target_record t a s)) (not (need_met need (rights_of t a s))) last e
-
-pub seen_done : (t : Table) (a s : ℕ) (bad : Bool) (wanted : ℕ) (need : Need) (seen : SlotCheck) → SlotChecked t a s bad wanted need seen → seen.done ≡ true → seen.reply ≡ Done
-unfolding slot_rows
-seen_done t a s bad wanted need seen looked d = looked.reply ∙ rows_last t a s bad wanted need Done (sym looked.done ∙ d)

@@ -1,7 +1,7 @@
 -- Document 01, "Why something is turned down", rows 1 to 9: "Checks run in number order, among those that apply."
 -- Each row is a test of its cause; the first cause that holds gives the reply. "allocate meets only 1, 2, 3 and 9". Row 24 is document
 -- 02's, 2.8: "between 4 and 6, if the target is alive", of reclaim alone, to which "refusal 5 does not apply".
-use Rattle.std.specs.Prelude.{Bool, true, false, not, ◌&&◌, ◌||◌, List, [], ◌∷◌, ℕ, ltb, eqb, length}
+use Rattle.std.specs.Prelude.{Bool, true, false, not, ◌&&◌, ◌||◌, List, [], ◌∷◌, ℕ, ltb, eqb, length, Err}
 use Rattle.mask.specs.Sets.{has, excluding, subset_of}
 use Rattle.table.specs.declared.Capability.{Capability}
 use Rattle.table.specs.declared.Record.{Record}
@@ -12,8 +12,8 @@ use Rattle.rights.specs.declared.Need.TheVariants.{ReadOrWeak, Write, Send}
 use Rattle.rights.specs.declared.Need.{Need}
 use Rattle.rights.specs.Rows.{need_met}
 use Rattle.requests.specs.declared.Pair.{Pair}
-use Rattle.refusals.specs.declared.Reply.{Reply}
-use Rattle.refusals.specs.declared.Reply.TheVariants.{Done, TableUnsound, FieldInvalid, ActorUnfit, SlotEmpty, TargetDead, RightAbsent, TargetPassive, ActorItself, NotInStock, TargetAlive}
+use Rattle.refusals.specs.Replies.{Reply, Done}
+use Rattle.refusals.specs.declared.Refusal.TheVariants.{TableUnsound, FieldInvalid, ActorUnfit, SlotEmpty, TargetDead, RightAbsent, TargetPassive, ActorItself, NotInStock, TargetAlive}
 use Rattle.requests.specs.Asks.{Ask, read, write, fetch, store, revoke, send, allocate, destroy, reclaim, unknown, actor_of}
 
 -- the reply where the cause holds, else what is left to check
@@ -65,13 +65,13 @@ other_status wanted target = is_born target && not (eqb target.status wanted)
 
 -- row 5, "target dead", where an alive one is wanted; where a dead one is, row 24, "if the target is alive"
 unfoldable pub wrong_status : ℕ → Reply
-wrong_status wanted = elim (eqb wanted alive) [ true ↦ TargetDead | false ↦ TargetAlive ]
+wrong_status wanted = elim (eqb wanted alive) [ true ↦ Err TargetDead | false ↦ Err TargetAlive ]
 
 -- rows 4 to 6, by the slot that is used, its target's record, the status that is wanted of it, and whether the slot has the needed
 -- right
 unfoldable pub through : Capability → Record → ℕ → Bool → Reply → Reply
 through slot target wanted able rest =
-    refuse (is_empty slot) SlotEmpty (refuse (other_status wanted target) (wrong_status wanted) (refuse (not able) RightAbsent rest))
+    refuse (is_empty slot) (Err SlotEmpty) (refuse (other_status wanted target) (wrong_status wanted) (refuse (not able) (Err RightAbsent) rest))
 
 -- row 9: "n not in own stock, or part not within the stock less n"
 unfoldable pub not_in_stock : ℕ → ℕ → ℕ → Bool
@@ -99,14 +99,14 @@ later_rows tb (fetch a t i j) = through_slot tb a t alive ReadOrWeak Done
 later_rows tb (store a t i j) = through_slot tb a t alive Write Done
 later_rows tb (revoke a t j) = through_slot tb a t alive Write Done
 later_rows tb (send a t w l y) =
-    through_slot tb a t alive Send (refuse (not (is_active (target_record tb a t))) TargetPassive Done)
-later_rows tb (allocate a n k p i l) = refuse (not_in_stock n p (record_at tb a).stock) NotInStock Done
-later_rows tb (destroy a t) = through_slot tb a t alive Write (refuse (eqb (target_of tb a t) a) ActorItself Done)
+    through_slot tb a t alive Send (refuse (not (is_active (target_record tb a t))) (Err TargetPassive) Done)
+later_rows tb (allocate a n k p i l) = refuse (not_in_stock n p (record_at tb a).stock) (Err NotInStock) Done
+later_rows tb (destroy a t) = through_slot tb a t alive Write (refuse (eqb (target_of tb a t) a) (Err ActorItself) Done)
 later_rows tb (reclaim a t) = through_slot tb a t dead Write Done
-later_rows tb (unknown c a) = FieldInvalid
+later_rows tb (unknown c a) = Err FieldInvalid
 
 -- rows 1 to 9, and 24
 unfoldable pub refusal : Table → Ask → Reply
 refusal tb q =
-    refuse (not (sound tb)) TableUnsound
-    (refuse (bad_field q) FieldInvalid (refuse (unfit (record_at tb (actor_of q))) ActorUnfit (later_rows tb q)))
+    refuse (not (sound tb)) (Err TableUnsound)
+    (refuse (bad_field q) (Err FieldInvalid) (refuse (unfit (record_at tb (actor_of q))) (Err ActorUnfit) (later_rows tb q)))

@@ -1,6 +1,6 @@
 -- Feeds of one word into another: what the code's straight lines come to, that words only grow, and that a pass which adds
 -- nothing meets no rule that would. Assumes nothing.
-use mathlib.Core.Path.{◌≡◌, refl, sym, ◌∙◌, ap, subst, subst⁻¹}
+use mathlib.Core.Path.{◌≡◌, refl, sym, ◌∙◌, ap, ap₂, subst, subst⁻¹}
 use mathlib.Core.Bool.{Bool, true, false}
 use mathlib.Core.List.{List, [], ◌∷◌}
 use Prim.Native.Nat.{ℕ, zero, suc, ◌+◌, ◌*◌, ◌/◌, ◌%◌, ◌^◌, ◌≤◌, ◌<◌}
@@ -35,9 +35,27 @@ bit_set m y e = eq-eqb _ 1 (sym (and_mask (m / 2 ^ y) 1) ∙ e)
 pub bit_clear : (m y : ℕ) → (bit_and (m / 2 ^ y) 1 ≡ 1 → ⊥) → has y m ≡ false
 bit_clear m y n = ne_eqb _ 1 (λ e. n (and_mask (m / 2 ^ y) 1 ∙ e))
 
-pub four_feeds : (r a b c d : List ℕ) (e f g h : Feed) → a ≡ feed r e → b ≡ feed a f → c ≡ feed b g → d ≡ feed c h → d ≡ feed_all r (e ∷ f ∷ g ∷ h ∷ [])
-unfolding feed_all
-four_feeds r a b c d e f g h p q u v = cc
+-- the first b of the four feeds by which u comes to have what v has
+unfoldable pub shared : List ℕ → ℕ → ℕ → ℕ → ℕ → ℕ → ℕ → List ℕ
+shared r g x y u v zero = r
+shared r g x y u v (suc b) = feed (shared r g x y u v b) (record { gate = g * 64 + x; over = y; dst = b * 64 + u; src = b * 64 + v })
+
+module _ (r : List ℕ) (g x y u v : ℕ) where
+  pub shared_none : r ≡ shared r g x y u v 0
+  unfolding shared
+  shared_none = refl
+
+  pub shared_more : (s t : List ℕ) (b : ℕ) → s ≡ shared r g x y u v b → t ≡ feed s (record { gate = g * 64 + x; over = y; dst = b * 64 + u; src = b * 64 + v }) → t ≡ shared r g x y u v (b + 1)
+  unfolding shared
+  shared_more s t b p q = rw add-one (q ∙ ap (λ (w : List ℕ). feed w (record { gate = g * 64 + x; over = y; dst = b * 64 + u; src = b * 64 + v })) p)
+
+  pub shared_all : (s : List ℕ) (b : ℕ) → b ≡ 4 → s ≡ shared r g x y u v b → s ≡ feed_all r (shares g x y u v)
+  unfolding shared feed_all shares
+  shared_all s b e p = p ∙ ap (shared r g x y u v) e
+
+-- the same where u and v are the pair the other way round
+pub turned : (r s : List ℕ) (g x y u v : ℕ) → u ≡ y → v ≡ x → s ≡ feed_all r (shares g x y u v) → s ≡ feed_all r (shares g x y y x)
+turned r s g x y u v p q e = e ∙ ap₂ (λ (i j : ℕ). feed_all r (shares g x y i j)) p q
 
 module _ (r a b c d e : List ℕ) (x y : ℕ) where
   pub five_steps : a ≡ feed_all r (shares 0 x y x y) → b ≡ feed a (via_weak rd x y) → c ≡ feed b (via_weak wk x y) → d ≡ feed_all c (shares 1 x y y x) → e ≡ feed_all d (shares 3 x y y x) → e ≡ feed_all r (rules x y)

@@ -2,49 +2,69 @@
 // numbered 0 rd, 1 wr, 2 wk, 3 tx.
 #![tactic(auto)]
 
-ghost use Rattle.std.specs.Prelude.{◌≡◌, true, false, ◌+◌, ◌*◌, ◌<◌, length};
+ghost use Rattle.std.specs.Prelude.{◌≡◌, ◌+◌, ◌*◌, ◌<◌};
 ghost use Rattle.relation.specs.Helpers.{Full, feed, feed_all, shares, rules, held_over, row_pass, pass_of, Saturated};
 
-// Where x has the right g over y, word (s, v) is joined into word (d, u).
-fn join_word(
-    r: &mut [u64; 256],
-    g: usize,
+// The rights. Stays: a right is a number and no enum, since its words stand at 64 times it; the words stay a bare array, which
+// `saturate` takes and gives and whose length its type says, so a struct around them would say no more.
+const RD: usize = 0;
+
+const WR: usize = 1;
+
+const WK: usize = 2;
+
+const TX: usize = 3;
+
+// A pair of numbers, x and y.
+#[derive(Clone, Copy)]
+struct Pair {
     x: usize,
     y: usize,
-    d: usize,
-    u: usize,
-    s: usize,
-    v: usize,
-)
-    requires { (g < 4) × (x < 64) × (y < 64) × (d < 4) × (u < 64) × (s < 4) × (v < 64) }
-    ensures { r.new ≡ feed r.old (record { gate = g * 64 + x; over = y; dst = d * 64 + u; src = s * 64 + v }) }
-{
-    if (r[g * 64 + x] >> y) & 1 == 1 {
-        r[d * 64 + u] = r[d * 64 + u] | r[s * 64 + v];
+    ghost below: { (x < 64) × (y < 64) },
+}
+
+impl Pair {
+    // The pair the other way round.
+    fn back(self) -> Pair
+        ensures { (result.x ≡ self.y) × (result.y ≡ self.x) }
+    {
+        Pair {
+            x: self.y,
+            y: self.x,
+        }
     }
 }
 
-// Where x has the right g over y, u comes to have every right that v has.
-fn share(r: &mut [u64; 256], g: usize, x: usize, y: usize, u: usize, v: usize)
-    requires { (g < 4) × (x < 64) × (y < 64) × (u < 64) × (v < 64) }
-    ensures { r.new ≡ feed_all r.old (shares g x y u v) }
+// Where p.x has the right g over p.y, word (s, q.y) is joined into word (d, q.x).
+fn join_word(r: &mut [u64; 256], g: usize, p: Pair, d: usize, q: Pair, s: usize)
+    requires { (g < 4) × (d < 4) × (s < 4) }
+    ensures { r.new ≡ feed r.old (record { gate = g * 64 + p.x; over = p.y; dst = d * 64 + q.x; src = s * 64 + q.y }) }
 {
-    join_word(r, g, x, y, 0, u, 0, v);
-    join_word(r, g, x, y, 1, u, 1, v);
-    join_word(r, g, x, y, 2, u, 2, v);
-    join_word(r, g, x, y, 3, u, 3, v);
+    if (r[g * 64 + p.x] >> p.y) & 1 == 1 {
+        r[d * 64 + q.x] |= r[s * 64 + q.y];
+    }
 }
 
-// The rules at the pair x, y: by rd x has what y has; by wk x has wk where y has rd or wk; by wr and tx y has what x has.
-fn apply_rules(r: &mut [u64; 256], x: usize, y: usize)
-    requires { (x < 64) × (y < 64) }
-    ensures { r.new ≡ feed_all r.old (rules x y) }
+// Where p.x has the right g over p.y, q.x comes to have every right that q.y has.
+fn share(r: &mut [u64; 256], g: usize, p: Pair, q: Pair)
+    requires { g < 4 }
+    ensures { r.new ≡ feed_all r.old (shares g p.x p.y q.x q.y) }
 {
-    share(r, 0, x, y, x, y);
-    join_word(r, 2, x, y, 2, x, 0, y);
-    join_word(r, 2, x, y, 2, x, 2, y);
-    share(r, 1, x, y, y, x);
-    share(r, 3, x, y, y, x);
+    for b in 0..4 {
+        join_word(r, g, p, b, q, b);
+    }
+}
+
+// The rules at a pair: by rd x has what y has; by wk x has wk where y has rd or wk; by wr and tx y has what x has.
+fn apply_rules(r: &mut [u64; 256], p: Pair)
+    ensures { r.new ≡ feed_all r.old (rules p.x p.y) }
+{
+    let q = p.back();
+    share(r, RD, p, p);
+    join_word(r, WK, p, WK, p, RD);
+    join_word(r, WK, p, WK, p, WK);
+    share(r, WR, p, q);
+    share(r, TX, p, q);
 }
 
 // The numbers over which x has some right.
@@ -55,14 +75,13 @@ fn held_over(r: &[u64; 256], x: usize) -> u64
     r[x] | r[64 + x] | r[128 + x] | r[192 + x]
 }
 
-// The rules at the pair x, y, tried only where x has some right over y: at any other pair every rule is shut.
-fn visit(r: &mut [u64; 256], x: usize, y: usize)
-    requires { (x < 64) × (y < 64) }
-    ensures { r.new ≡ feed_all r.old (rules x y) }
+// The rules at a pair, tried only where x has some right over y: at any other pair every rule is shut.
+fn visit(r: &mut [u64; 256], p: Pair)
+    ensures { r.new ≡ feed_all r.old (rules p.x p.y) }
 {
-    let over = held_over(r, x);
-    if (over >> y) & 1 == 1 {
-        apply_rules(r, x, y);
+    let over = held_over(r, p.x);
+    if (over >> p.y) & 1 == 1 {
+        apply_rules(r, p);
     }
 }
 
@@ -73,10 +92,8 @@ fn visit_row(r: &mut [u64; 256], x: usize)
 {
     let over = held_over(r, x);
     if over != 0 {
-        let mut y: usize = 0;
-        while y < 64 {
-            visit(r, x, y);
-            y = y + 1;
+        for y in 0..64 {
+            visit(r, Pair { x, y });
         }
     }
 }
@@ -85,26 +102,9 @@ fn visit_row(r: &mut [u64; 256], x: usize)
 fn pass(r: &mut [u64; 256])
     ensures { r.new ≡ pass_of r.old 4096 }
 {
-    let mut x: usize = 0;
-    while x < 64 {
+    for x in 0..64 {
         visit_row(r, x);
-        x = x + 1;
     }
-}
-
-// Are the words the same?
-fn same_words(a: &[u64; 256], b: &[u64; 256]) -> bool
-    requires { (length a.now ≡ 256) × (length b.now ≡ 256) }
-    ensures { (result ≡ true → a.now ≡ b.now) × (result ≡ false → a.now ≡ b.now → ⊥) }
-{
-    let mut i: usize = 0;
-    while i < 256 {
-        if a[i] != b[i] {
-            return false;
-        }
-        i = i + 1;
-    }
-    true
 }
 
 // The rules, until they add nothing.
@@ -116,7 +116,7 @@ pub fn saturate(start: [u64; 256]) -> [u64; 256]
     loop {
         let old = r;
         pass(&mut r);
-        if same_words(&old, &r) {
+        if old == r {
             return r;
         }
     }

@@ -4,22 +4,24 @@
 
 // A pair is (actor's slot, destination slot).
 #[repr(C)]
-#[derive(Clone, Copy)]
+#[derive(Debug, Clone, Copy, PartialEq, Eq)]
 pub struct Pair {
     pub from: u8,
     pub to: u8,
 }
 
 // A list of `count` pairs. A count above 4 is a list too long; pairs at or after the count are no part of it.
+// Stays: a count beside an array, for memory is fixed, and a list too long has to be sayable, since it gets refusal 2 (`list_bad` of
+// refusals). It is not compared by ==, which would look at pairs that are no part of it.
 #[repr(C)]
-#[derive(Clone, Copy)]
+#[derive(Debug, Clone, Copy)]
 pub struct PairList {
     pub count: u8,
     pub pairs: [Pair; 4],
 }
 
 // `t` is the actor's slot that is used. The list of a send or an allocate stands beside the request.
-#[derive(Clone, Copy)]
+#[derive(Debug, Clone, Copy, PartialEq, Eq)]
 pub enum Request {
     Read {
         actor: u8,

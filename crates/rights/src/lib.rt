@@ -12,7 +12,7 @@ const WK: u8 = 4;
 const EMPTY: u8 = 0;
 
 // The right that a request needs on the slot that it uses.
-#[derive(Clone, Copy)]
+#[derive(Debug, Clone, Copy, PartialEq, Eq)]
 pub enum Need {
     ReadOrWeak,
     Write,
@@ -21,7 +21,9 @@ pub enum Need {
 
 // What one value is worth: the rights that weakening leaves of it; may it read and fetch; may it write, store, revoke, destroy and reclaim;
 // may it send.
-#[derive(Clone, Copy)]
+// Stays: the columns have no names, so that a row is one line here, in the definition `rows` and on the sheet docs/RIGHTS.md, with the
+// columns in the same order; tools/row-edits and model/tools/src/rights read these lines.
+#[derive(Debug, Clone, Copy, PartialEq, Eq)]
 pub struct Worth(pub u8, pub bool, pub bool, pub bool);
 
 // The row of a value: 1 rd, 2 wr, 4 wk, 8 tx, added up. A byte above 15 has the row of its four lowest bits.
@@ -53,11 +55,11 @@ pub fn worth_of(rights: u8) -> Worth
 pub fn need_met(need: Need, rights: u8) -> bool
     ensures { result ≡ need_met need rights }
 {
-    let w = worth_of(rights);
+    let Worth(_, reads, writes, sends) = worth_of(rights);
     match need {
-        Need::ReadOrWeak => w.1,
-        Need::Write => w.2,
-        Need::Send => w.3,
+        Need::ReadOrWeak => reads,
+        Need::Write => writes,
+        Need::Send => sends,
     }
 }
 
@@ -65,13 +67,9 @@ pub fn need_met(need: Need, rights: u8) -> bool
 pub fn weaken(c: Capability) -> Capability
     ensures { result ≡ weakened c }
 {
-    let w = worth_of(c.rights);
-    let left = w.0;
+    let Worth(left, ..) = worth_of(c.rights);
     if left == EMPTY {
-        return Capability {
-            target: 0,
-            rights: 0,
-        };
+        return Capability::EMPTY;
     }
     Capability {
         target: c.target,

@@ -11,14 +11,16 @@ use Rattle.table.specs.declared.Table.{Table}
 use Rattle.table.specs.Cells.{IsTable}
 use Rattle.table.proofs.Value.{value_is_table}
 use Rattle.requests.specs.Asks.{Ask, actor_of}
-use Rattle.refusals.specs.declared.Reply.{Reply}
-use Rattle.refusals.specs.Replies.{number}
+use Rattle.refusals.specs.Replies.{Reply, number}
 use Rattle.refusals.specs.Refusals.{refusal}
 use Rattle.steps.specs.Steps.{after, step_of, run_table, run_replies}
 use Rattle.confinement.specs.Refusals.{verdict_of, verdict_number}
 use Rattle.confinement.proofs.Verdicts.{test_verdict, test_bound, test_rounds}
+use Rattle.image.specs.Images.{read_of}
 use Rattle.image.proofs.Typed.{read_is_table}
+use Rattle.take_grant.specs.Imports.{import_of}
 use Rattle.take_grant.proofs.Claims.{import_is_table}
+use Rattle.captable.proofs.Tables.{table_read, table_imported}
 use Rattle.entries.specs.Entries.{entries_in}
 use Rattle.isolation.specs.Clean.{Clean, clean_at_start, clean_after, clean_replies}
 use Rattle.isolation.specs.Demand.{BothAccepted, TwoRuns}
@@ -29,8 +31,8 @@ use Rattle.runs.specs.Runs.{Had, owned, read, imported, Taken, none, by_value, l
 -- a table that the firmware has is one --------------------------------------------------
 pub had_table : {t : Table} → Had t → IsTable t
 had_table {t} (owned vs is) = value_is_table t vs is
-had_table (read image b e) = rw e (read_is_table image b)
-had_table (imported bytes e) = rw e (import_is_table bytes)
+had_table (read image b e) = rw (e, ← table_read (read_of image)) (read_is_table image b)
+had_table (imported bytes e) = rw (e, ← table_imported (import_of bytes)) (import_is_table bytes)
 
 -- a run of the calls is the definition's run ----------------------------------------------
 unfoldable numbers_of : List Reply → List ℕ

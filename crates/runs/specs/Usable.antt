@@ -9,11 +9,11 @@ use Rattle.chains.specs.Answers.{chain_of}
 use Rattle.image.specs.declared.Version.{Version}
 use Rattle.image.specs.Layout.{image_length}
 use Rattle.image.specs.Images.{read_of}
-use Rattle.image_out.specs.Written.{write_number, write_refusal, written_of}
+use Rattle.image_out.specs.Written.{write_refusal, written_of}
 use Rattle.wire.specs.Wires.{ask_from}
 use Rattle.entries.specs.Entries.{entries_in}
 use Rattle.take_grant.specs.Imports.{import_of}
-use Rattle.captable.specs.Crossing.{sound_number, stepped, related, found, chained, loaded, brought_in}
+use Rattle.captable.specs.Crossing.{sound_number, stepped, related, found, chained, loaded, brought_in, written_number}
 
 -- by the numbers that the calls give, for all that may be asked
 pub record Usable (t : Table) : Type 0 where
@@ -22,7 +22,7 @@ pub record Usable (t : Table) : Type 0 where
   pub shown : (members : ℕ) (list : List ℕ) (object : ℕ) → (chained (chain_of t members (entries_in list) object)).number ≢ 1
   pub related : (related (access_of t)).number ≡ 0
   pub asked : (request : List ℕ) → (stepped (step_of t (ask_from request))).number ≢ 1
-  pub written : (v : Version) (buffer : List ℕ) → image_length v ≤ length buffer → write_number (write_refusal v t buffer) ≡ 0
+  pub written : (v : Version) (buffer : List ℕ) → image_length v ≤ length buffer → written_number (write_refusal v t buffer) ≡ 0
   pub read_back : (v : Version) (buffer : List ℕ) → image_length v ≤ length buffer → loaded (read_of (take (image_length v) (written_of v t buffer))) ≡ record { table = t; number = 0 }
 
 unfoldable pub ImportUsable : Type 0

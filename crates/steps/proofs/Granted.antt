@@ -22,10 +22,10 @@ use Rattle.rights.specs.declared.Need.TheVariants.{Write}
 use Rattle.rights.specs.declared.Need.{Need}
 use Rattle.rights.specs.Rows.{need_met}
 use Rattle.requests.specs.declared.Pair.{Pair}
-use Rattle.refusals.specs.declared.Reply.{Reply}
-use Rattle.refusals.specs.declared.Reply.TheVariants.{Done, ActorItself, NotInStock, TableUnsound, FieldInvalid, ActorUnfit, SlotEmpty, RightAbsent}
+use Rattle.std.specs.Prelude.{Err}
+use Rattle.refusals.specs.declared.Refusal.TheVariants.{TableUnsound, FieldInvalid, ActorUnfit, SlotEmpty, RightAbsent, ActorItself, NotInStock}
+use Rattle.refusals.specs.Replies.{Reply, Done, is_done}
 use Rattle.requests.specs.Asks.{Ask, revoke, send, allocate, destroy, reclaim, actor_of}
-use Rattle.refusals.specs.Replies.{is_done}
 use Rattle.refusals.proofs.Rows.{wrong_refuses, status_wanted, slot_placed}
 use Rattle.refusals.specs.Refusals.{refuse, no_slot, no_object, bad_slots, bad_list, bad_field, unfit, alive, dead, other_status, wrong_status, through, through_slot, not_in_stock, target_of, target_record, rights_of, later_rows, refusal}
 
@@ -47,9 +47,9 @@ pub record PastChecks (t : Table) (q : Ask) : Type 0 where
 pub past_checks : (t : Table) (q : Ask) → is_done (refusal t q) ≡ true → PastChecks t q
 unfolding refusal
 past_checks t q e =
-    let r1 = passed (not (sound t)) TableUnsound _ refl e in
-    let r2 = passed (bad_field q) FieldInvalid _ refl r1.1 in
-    let r3 = passed (unfit (record_at t (actor_of q))) ActorUnfit _ refl r2.1 in
+    let r1 = passed (not (sound t)) (Err TableUnsound) _ refl e in
+    let r2 = passed (bad_field q) (Err FieldInvalid) _ refl r1.1 in
+    let r3 = passed (unfit (record_at t (actor_of q))) (Err ActorUnfit) _ refl r2.1 in
     let a = or_none (not (is_alive (record_at t (actor_of q)))) (not (is_active (record_at t (actor_of q)))) r3.0 in
     record { whole = not-false _ r1.0; fields = r2.0; alive = eqb-true _ 1 (not-false _ a.0); later = r3.1 }
 
@@ -59,9 +59,9 @@ pub past_through : (c : Capability) (r : Record) (wanted : ℕ) (able : Bool) (r
     → (is_empty c ≡ false) × (other_status wanted r ≡ false) × (able ≡ true) × (is_done rest ≡ true)
 unfolding through
 past_through c r wanted able rest e =
-    let r4 = passed (is_empty c) SlotEmpty _ refl e in
+    let r4 = passed (is_empty c) (Err SlotEmpty) _ refl e in
     let r5 = passed (other_status wanted r) (wrong_status wanted) _ (wrong_refuses wanted) r4.1 in
-    let r6 = passed (not able) RightAbsent rest refl r5.1 in
+    let r6 = passed (not able) (Err RightAbsent) rest refl r5.1 in
     (r4.0, r5.0, not-false _ r6.0, r6.1)
 
 pub record Granted (t : Table) (a s wanted : ℕ) (need : Need) : Type 0 where
@@ -115,7 +115,7 @@ pub not_itself : (t : Table) (a s : ℕ) → is_done (refusal t (destroy a s)) �
 unfolding later_rows through_slot
 not_itself t a s e =
     let r = past_through (slot_at t a s) (target_record t a s) alive (need_met Write (rights_of t a s)) _ (past_checks t (destroy a s) e).later in
-    eqb-false (target_of t a s) a (passed (eqb (target_of t a s) a) ActorItself Done refl r.3).0
+    eqb-false (target_of t a s) a (passed (eqb (target_of t a s) a) (Err ActorItself) Done refl r.3).0
 
 -- a reclaim
 pub reclaim_granted : (t : Table) (a s : ℕ) → Sound t → is_done (refusal t (reclaim a s)) ≡ true → Granted t a s dead Write
@@ -191,6 +191,6 @@ made_facts t ps a n k p i e =
       kind = ltb-false 1 k f3.1;
       slot = slot_placed i f2.1;
       alive = r.alive;
-      share = within n p _ (passed (not_in_stock n p (stock_at t a)) NotInStock Done refl r.later).0;
+      share = within n p _ (passed (not_in_stock n p (stock_at t a)) (Err NotInStock) Done refl r.later).0;
       list = f1.1;
     }

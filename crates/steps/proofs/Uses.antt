@@ -16,26 +16,27 @@ use Rattle.rights.specs.declared.Need.TheVariants.{ReadOrWeak, Write, Send}
 use Rattle.rights.specs.declared.Need.{Need}
 use Rattle.requests.specs.declared.Pair.{Pair}
 use Rattle.requests.specs.declared.PairList.{PairList}
-use Rattle.refusals.specs.declared.Reply.{Reply}
-use Rattle.refusals.specs.declared.Reply.TheVariants.{Done, TargetPassive, ActorItself, NotInStock}
-use Rattle.refusals.specs.declared.SlotCheck.{SlotCheck}
+use Rattle.std.specs.Prelude.{Err}
+use Rattle.refusals.specs.declared.Refusal.TheVariants.{TargetPassive, ActorItself, NotInStock}
+use Rattle.refusals.specs.Replies.{Reply, Done}
+use Rattle.refusals.specs.declared.Opened.{Opened}
 use Rattle.requests.specs.Asks.{read, write, fetch, store, revoke, send, allocate, destroy, reclaim, unknown, pairs_of}
 use Rattle.refusals.specs.Refusals.{refuse, alive, dead, no_object, no_slot, bad_list, bad_field, not_in_stock, target_of, later_rows}
-use Rattle.refusals.specs.Helpers.{SlotChecked, PairsFit}
+use Rattle.refusals.specs.Helpers.{SlotOpened, PairsFit}
 use Rattle.refusals.proofs.Lists.{pairs_fit}
 use Rattle.steps.proofs.Ways.{Uses, Fields, Later}
 
 -- the last checks, of the target: row 7 of a send, row 8 of a destroy
 abbrev pub passive_row : Table → ℕ → Reply
-passive_row t g = refuse (not (is_active (record_at t g))) TargetPassive Done
+passive_row t g = refuse (not (is_active (record_at t g))) (Err TargetPassive) Done
 
 -- row 7 by the kind that the check saw
-pub passive_seen : {t : Table} {a s : ℕ} {bad : Bool} {wanted : ℕ} {need : Need} {seen : SlotCheck} → SlotChecked t a s bad wanted need seen → seen.done ≡ true
-    → passive_row t seen.target ≡ refuse (not (eqb seen.kind 1)) TargetPassive Done
-passive_seen looked d = rw (looked.target d, looked.kind d) refl
+pub passive_seen : {t : Table} {a s : ℕ} {bad : Bool} {wanted : ℕ} {need : Need} {seen : Opened} → SlotOpened t a s bad wanted need seen
+    → passive_row t seen.target ≡ refuse (not (eqb seen.kind 1)) (Err TargetPassive) Done
+passive_seen looked = rw (looked.target, looked.kind) refl
 
 abbrev pub itself_row : ℕ → ℕ → Reply
-itself_row a g = refuse (eqb g a) ActorItself Done
+itself_row a g = refuse (eqb g a) (Err ActorItself) Done
 
 module _ {t : Table} {a s : ℕ} where
   pub read_uses : Uses t (read a s) a s false alive ReadOrWeak Done
@@ -88,7 +89,7 @@ allocate_fields {a} {n} {kind} {part} {i} {l} {b} e = record { found = ap (λ (x
 
 pub allocate_later : {t : Table} {a n kind part i : ℕ} {l : List Pair} {r : Record} {h w : Bool} {rest : ℕ} → r ≡ record_at t a
     → h ≡ has n r.stock → rest ≡ excluding n r.stock → w ≡ subset_of part rest
-    → Later t (allocate a n kind part i l) (refuse (not h || not w) NotInStock Done)
+    → Later t (allocate a n kind part i l) (refuse (not h || not w) (Err NotInStock) Done)
 unfolding later_rows not_in_stock
 allocate_later e p q w = record { found = rw (p, w, q, e) refl }
 

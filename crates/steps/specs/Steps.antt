@@ -2,10 +2,9 @@
 -- each later one the table that the one before it returned or left; a refused one leaves it as it was."
 use Rattle.std.specs.Prelude.{true, false, List, [], ◌∷◌}
 use Rattle.table.specs.declared.Table.{Table}
-use Rattle.refusals.specs.declared.Reply.{Reply}
 use Rattle.steps.specs.declared.Stepped.{Stepped}
 use Rattle.requests.specs.Asks.{Ask}
-use Rattle.refusals.specs.Replies.{is_done}
+use Rattle.refusals.specs.Replies.{Reply, is_done}
 use Rattle.refusals.specs.Refusals.{refusal}
 use Rattle.effects.specs.Effects.{effect}
 

@@ -6,7 +6,7 @@ use mathlib.Core.Bool.{Bool, true, false, not, ◌&&◌}
 use mathlib.Core.List.{List}
 use Prim.Native.Nat.{ℕ, zero, suc, ◌-◌, ◌/◌, ◌%◌, ◌^◌, ◌<◌}
 use native.Mathlib.Omega.{arith}
-use lib.Count.{count_trailing_zeros, under}
+use lib.Count.{count_trailing_zeros}
 use lib.ListN.{length, get_or, set, length-set}
 use lib.Seq.{get_or-set_same, get_or-set_other}
 use lib.Dec.{eqb}
@@ -14,32 +14,12 @@ use borrow.Author.Tests.{eqb-true, eqb-false, eq-eqb, ne_eqb}
 use Rattle.mask.specs.Sets.{has, any_below, including, excluding, union_of, common_of}
 use Rattle.mask.proofs.Tests.{by_eq, clash, bool_ext, and_true, and_intro, or_cases, or_left, or_right}
 use Rattle.mask.proofs.Below.{any_intro, any_elim}
+use Rattle.mask.proofs.Lowest.{tz_there, tz_first}
 use Rattle.mask.proofs.Bits.{has_suc, has_zero, has_excluding, has_union, bits_lt, bits_same, as_bits}
 use Rattle.relation.proofs.Reach.{count, count_lt}
 use Rattle.sweeps.specs.Helpers.{Lowest, near_of, PutEach, NotedEach}
 
 -- the lowest number -----------------------------------------------------------------
-tz_digit : (k n r : ℕ) → n % 2 ≡ r → r < 2 → (r ≡ 0 → (count_trailing_zeros k (n / 2) < k) × (has (count_trailing_zeros k (n / 2)) (n / 2) ≡ true))
-    → (under r (count_trailing_zeros k (n / 2)) < suc k) × (has (under r (count_trailing_zeros k (n / 2))) n ≡ true)
-tz_digit k n zero e l f = let p = f refl in (omega (arith, p.0), has_suc (count_trailing_zeros k (n / 2)) n ∙ p.1)
-tz_digit k n (suc zero) e l f = (omega arith, eq-eqb (n / 2 ^ 0 % 2) 1 (omega (arith, e)))
-tz_digit k n (suc (suc r)) e l f = absurd (omega arith)
-
-tz_there : (k n : ℕ) → 0 < n → n < 2 ^ k → (count_trailing_zeros k n < k) × (has (count_trailing_zeros k n) n ≡ true)
-unfolding count_trailing_zeros
-tz_there zero n p l = absurd (omega arith)
-tz_there (suc k) n p l = tz_digit k n (n % 2) refl (omega arith) (λ e. tz_there k (n / 2) (omega arith) (omega arith))
-
-tz_below : (k n r i : ℕ) → n % 2 ≡ r → ((j : ℕ) → j < count_trailing_zeros k (n / 2) → has j (n / 2) ≡ false) → i < under r (count_trailing_zeros k (n / 2)) → has i n ≡ false
-tz_below k n zero zero e f h = ne_eqb (n / 2 ^ 0 % 2) 1 (λ q. omega (arith, e, q))
-tz_below k n zero (suc i) e f h = has_suc i n ∙ f i (omega (arith, h))
-tz_below k n (suc r) i e f h = absurd (omega (arith, h))
-
-tz_first : (k n i : ℕ) → i < count_trailing_zeros k n → has i n ≡ false
-unfolding count_trailing_zeros
-tz_first zero n i h = absurd (omega (arith, h))
-tz_first (suc k) n i h = tz_below k n (n % 2) i refl (tz_first k (n / 2)) h
-
 pub lowest_is : (n : ℕ) → 0 < n → n < 2 ^ 64 → Lowest n (count_trailing_zeros 64 n)
 lowest_is n p l = let q = tz_there 64 n p l in record { low = q.0; there = q.1; first = tz_first 64 n }
 

@@ -1,12 +1,17 @@
 -- What helpers promise that go through a set number by number. They add nothing to what is reached.
-use Rattle.std.specs.Prelude.{◌≡◌, Bool, true, false, ◌&&◌, List, ℕ, ◌<◌, length, get_or}
-use Rattle.mask.specs.Sets.{has, bits, any_below, including}
+use Rattle.std.specs.Prelude.{◌≡◌, Bool, true, false, ◌&&◌, List, ℕ, ◌<◌, length, get_or, MatchOption}
+use Rattle.std.specs.declared.option.Option.{Option}
+use Rattle.mask.specs.Sets.{has, bits, any_below, including, excluding}
 
 -- a number of the set below which there is none
 pub record Lowest (set n : ℕ) : Type 0 where
   pub low : n < 64
   pub there : has n set ≡ true
   pub first : (k : ℕ) → k < n → has k set ≡ false
+
+-- of a set the lowest number is taken, and the others are left; of the empty set none
+abbrev pub TakesLowest : ℕ → Option ℕ → ℕ → Type 0
+TakesLowest set taken left = MatchOption taken ((set ≡ 0) × (left ≡ set)) (λ n. Lowest set n × (left ≡ excluding n set))
 
 -- what is one edge from a number of a set
 unfoldable pub near_of : (ℕ → ℕ → Bool) → ℕ → ℕ

@@ -3,10 +3,12 @@
 #![tactic(auto)]
 
 ghost use Rattle.std.specs.Prelude.{◌≡◌, ℕ, ◌<◌, length};
+ghost use Rattle.std.specs.Iterator.{at_most};
 ghost use Rattle.mask.specs.Sets.{excluding};
+ghost use Rattle.relation.proofs.Reach.{count};
 ghost use Rattle.links.specs.Links.{word_edge};
 ghost use Rattle.links.specs.Helpers.{spread_of};
-ghost use Rattle.sweeps.specs.Helpers.{Lowest, near_of, PutEach, NotedEach};
+ghost use Rattle.sweeps.specs.Helpers.{Lowest, TakesLowest, near_of, PutEach, NotedEach};
 
 use links::Spread;
 
@@ -15,7 +17,7 @@ pub fn lowest(set: u64) -> u8
     requires { 0 < set }
     ensures { Lowest set result }
 {
-    u64::trailing_zeros(set) as u8
+    set.trailing_zeros() as u8
 }
 
 // The set without its lowest number. One less than a set differs from it in that number and in those below, of which it has none.
@@ -26,17 +28,43 @@ pub fn beyond(set: u64) -> u64
     mask::common(set, set - 1)
 }
 
+// A sweep through the numbers of a set, lowest first: those that are left.
+#[derive(Drop)]
+pub struct Sweep {
+    left: u64,
+}
+
+impl Iterator for Sweep {
+    type Item = u8;
+
+    ghost next_gives = { λ s r t. TakesLowest s.left r t.left };
+
+    ghost remaining = { λ s. at_most (count 64 s.left) };
+
+    fn next(&mut self) -> Option<u8> {
+        if self.left == 0 {
+            return None;
+        }
+        let x = lowest(self.left);
+        self.left = beyond(self.left);
+        Some(x)
+    }
+}
+
+// The numbers of a set, to go through them.
+pub fn each(set: u64) -> Sweep
+    ensures { result.left ≡ set }
+{
+    Sweep { left: set }
+}
+
 // What is one edge from a number of a set.
 pub fn near(words: &[u64; 64], set: u64) -> u64
     ensures { result ≡ near_of (word_edge words.now) set }
 {
     let mut found: u64 = 0;
-    let mut left = set;
-    while left != 0 {
-        let x = lowest(left);
-        let word = words[x as usize];
-        found = mask::union(found, word);
-        left = beyond(left);
+    for x in each(set) {
+        found = mask::union(found, words[x as usize]);
     }
     found
 }
@@ -46,11 +74,8 @@ pub fn put_each(words: &mut [u64; 64], set: u64, word: u64)
     requires { length words.old ≡ 64 }
     ensures { PutEach set word words.old words.new }
 {
-    let mut left = set;
-    while left != 0 {
-        let x = lowest(left);
+    for x in each(set) {
         words[x as usize] = word;
-        left = beyond(left);
     }
 }
 
@@ -59,11 +84,8 @@ pub fn note_each(words: &mut [u64; 64], set: u64, x: u8)
     requires { (length words.old ≡ 64) × (x < 64) }
     ensures { NotedEach set x words.old words.new }
 {
-    let mut left = set;
-    while left != 0 {
-        let y = lowest(left);
+    for y in each(set) {
         words[y as usize] = mask::with(words[y as usize], x);
-        left = beyond(left);
     }
 }
 
@@ -73,13 +95,9 @@ pub fn put_near(words: &mut [u64; 64], set: u64, word: u64, over: &[u64; 64]) ->
     ensures { PutEach set word words.old words.new × (result ≡ near_of (word_edge over.now) set) }
 {
     let mut found: u64 = 0;
-    let mut left = set;
-    while left != 0 {
-        let y = lowest(left);
-        let one = over[y as usize];
+    for y in each(set) {
         words[y as usize] = word;
-        found = mask::union(found, one);
-        left = beyond(left);
+        found = mask::union(found, over[y as usize]);
     }
     found
 }
@@ -91,18 +109,17 @@ pub fn spread(words: &[u64; 64], x: u8) -> Spread
 {
     let mut s = links::alone(x);
     let mut fresh = s;
-    let mut k: u8 = 0;
-    while k < 63 {
+    for k in 0..links::MOST_ROUNDS {
         let found = near(words, fresh);
         let next = mask::union(s, found);
-        let added = mask::less(found, s);
-        let one_more = k + 1;
         if next == s {
             return Spread { set: s, rounds: k };
         }
+        fresh = mask::less(found, s);
         s = next;
-        fresh = added;
-        k = one_more;
     }
-    Spread { set: s, rounds: k }
+    Spread {
+        set: s,
+        rounds: links::MOST_ROUNDS,
+    }
 }

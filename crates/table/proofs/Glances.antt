@@ -33,10 +33,6 @@ pub over_more : (t : Table) (n k : ℕ) (g h : Glance) → g ≡ glance_over t n
 unfolding glance_over
 over_more t n k g h p q = rw add-one (q ∙ ap (λ (x : Glance). glance_more x (slot_at t n k).target (slot_at t n k).rights) p)
 
-pub else_asked : (a b : Bool) → a ≡ false → b ≡ (a || b)
-else_asked true b e = clash refl e
-else_asked false b e = refl
-
 -- what was noted of each slot
 module _ (t : Table) (n : ℕ) where
   none_filled : (k i : ℕ) → i < k → (glance_over t n k).filled ≡ false → is_empty (slot_at t n i) ≡ true

@@ -6,7 +6,7 @@ use Prim.Native.Nat.{ℕ, zero, suc, ◌+◌, ◌≤◌, ◌<◌}
 use native.Mathlib.Omega.{arith}
 use native.Mathlib.Numerals.{add-one}
 use lib.Dec.{ltb}
-use lib.ListN.{length, get_or-eq_default}
+use lib.ListN.{length, get_or, get_or-eq_default}
 use borrow.Author.Tests.{ltb-true, ltb-false}
 use Rattle.mask.specs.Sets.{has, bits, all_below, union_of, disjoint_of}
 use Rattle.mask.proofs.Tests.{by_cases, by_eq, clash, bool_ext, and_true, and_intro, and_false, or_none, apart_intro}
@@ -26,6 +26,10 @@ born_set t = bits 64 (born_at t)
 pub born_all : (t : Table) (n : ℕ) → 64 ≤ n → up_to n (born_at t) ≡ born_set t
 unfolding born_set
 born_all t n h = up_all (born_at t) n h
+
+pub born_is : (t : Table) (b : ℕ) → b ≡ bits 64 (λ n. is_born (get_or t.records n no_record)) → b ≡ born_set t
+unfolding born_set
+born_is t b e = e
 
 pub has_born : (t : Table) (x : ℕ) → length t.records ≡ 64 → has x (born_set t) ≡ born_at t x
 unfolding born_set

@@ -6,9 +6,9 @@ use mathlib.Core.Bool.{Bool, true, false, not, ◌&&◌}
 use Prim.Native.Nat.{ℕ, ◌≤◌, ◌<◌}
 use native.Mathlib.Omega.{arith}
 use lib.Dec.{leb, ltb, eqb}
-use borrow.Author.Tests.{ltb-true, ltb-false, leb-true, eqb-true, le-leb, eq-eqb, ne_eqb, not-true, not-false}
+use borrow.Author.Tests.{ltb-true, ltb-false, leb-true, eqb-true, le-leb, eq-eqb, not-true}
 use Rattle.mask.specs.Sets.{has, all_below}
-use Rattle.mask.proofs.Tests.{by_cases, by_eq, clash, bool_ext, and_true, and_intro, or_cases, or_left, or_right, imply_intro, imply_use}
+use Rattle.mask.proofs.Tests.{by_cases, by_eq, clash, and_true, and_intro, or_cases, or_left, or_right, imply_intro, imply_use}
 use Rattle.mask.proofs.Below.{all_at, all_intro}
 use Rattle.mask.proofs.Bits.{has_zero}
 use Rattle.table.specs.declared.Capability.{Capability}
@@ -77,36 +77,6 @@ fine_record r f = and_intro (values_sound r && unborn_sound r) (idle_sound r)
     (λ e. or_left (is_alive r) _ (eq-eqb _ 1 e))
     (λ e. or_right (is_alive r) _ (and_intro (eqb r.word 0) (eqb r.stock 0) (eq-eqb _ 0 (f.still e).0) (eq-eqb _ 0 (f.still e).1))))
 
--- the test by the status: alive, idle with something left, unborn, dead
-module _ (r : Record) where
-  pub alive_record : r.status ≡ 1 → leb r.kind 1 ≡ record_sound r
-  alive_record e = bool_ext (leb r.kind 1) (record_sound r)
-      (λ k. fine_record r (record { low = omega arith; sort = leb-true _ 1 k; still = λ n. absurd (n e); plain = λ z. absurd (omega arith) }))
-      (λ s. le-leb _ 1 (record-fine r s).sort)
-
-  pub idle_record : r.status ≢ 1 → not (eqb r.word 0 && eqb r.stock 0) ≡ true → false ≡ record_sound r
-  idle_record a e = by_cases (record_sound r)
-      (λ s. let w = (record-fine r s).still a in clash (and_intro (eqb r.word 0) (eqb r.stock 0) (eq-eqb _ 0 w.0) (eq-eqb _ 0 w.1)) (not-true _ e))
-      (λ s. sym s)
-
-  module _ (e : not (eqb r.word 0 && eqb r.stock 0) ≡ false) where
-    nothing : (r.word ≡ 0) × (r.stock ≡ 0)
-    nothing = let w = and_true (eqb r.word 0) (eqb r.stock 0) (not-false _ e) in (eqb-true _ 0 w.0, eqb-true _ 0 w.1)
-
-    pub unborn_record_lem : r.status ≡ 0 → eqb r.kind 0 ≡ record_sound r
-    unborn_record_lem u = bool_ext (eqb r.kind 0) (record_sound r)
-        (λ k. let z = eqb-true r.kind 0 k in fine_record r (record { low = omega arith; sort = omega arith; still = λ n. nothing; plain = λ q. z }))
-        (λ s. eq-eqb _ 0 ((record-fine r s).plain u))
-
-    pub dead_record : r.status ≢ 1 → r.status ≢ 0 → (eqb r.status 2 && leb r.kind 1) ≡ record_sound r
-    dead_record a u = bool_ext (eqb r.status 2 && leb r.kind 1) (record_sound r)
-        (λ k. let p = and_true (eqb r.status 2) (leb r.kind 1) k in
-        let z = eqb-true r.status 2 p.0 in
-        fine_record r (record { low = omega arith; sort = leb-true _ 1 p.1; still = λ n. nothing; plain = λ q. absurd (u q) }))
-        (λ s. let f = record-fine r s in
-        let low = f.low in
-        and_intro (eqb r.status 2) (leb r.kind 1) (eq-eqb r.status 2 (omega arith)) (le-leb _ 1 f.sort))
-
 -- a maker ---------------------------------------------------------------------------------
 pub maker_fine : (r s : Record) → maker_sound r (is_born s) ≡ true → MakerFine r.status s.status r.maker
 maker_fine r s e =
@@ -116,13 +86,6 @@ maker_fine r s e =
       alone = λ u. by_eq r.maker no_maker (λ q. q) (λ q. clash (eq-eqb _ 0 u) (not-true _ (and_true (not (is_unborn r)) (is_born s) (p q)).0));
       born = λ n. born_pos s (and_true (not (is_unborn r)) (is_born s) (p n)).1;
     }
-
--- the test by the maker: nobody's, somebody's
-pub unmade_maker : (r : Record) (b : Bool) → r.maker ≡ no_maker → true ≡ maker_sound r b
-unmade_maker r b e = sym (or_left (eqb r.maker no_maker) (not (is_unborn r) && b) (eq-eqb _ no_maker e))
-
-pub made_maker : (r : Record) (b : Bool) → r.maker ≢ no_maker → (not (is_unborn r) && b) ≡ maker_sound r b
-made_maker r b e = sym (rw (ne_eqb r.maker no_maker e) refl)
 
 fine_maker : (r s : Record) → s.status ≤ 2 → MakerFine r.status s.status r.maker → maker_sound r (is_born s) ≡ true
 fine_maker r s l f = by_eq r.maker no_maker

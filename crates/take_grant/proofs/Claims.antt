@@ -1,27 +1,26 @@
 -- The claims of 2.2, statement by statement of specs/Exactness.antt. In plain words: the import accepts exactly the bytes that the layout has, and
 -- gives back the table of their entities; whatever bytes come, the table is sound, without stocks, with alive active objects alone; each entity has
 -- its number and each capability its slot; and entities that Store links join influence each other. Assumes nothing.
-use mathlib.Core.Path.{◌≡◌, refl, sym, ◌∙◌, ap}
-use mathlib.Core.Bool.{true}
+use mathlib.Core.Path.{◌≡◌, refl, ◌∙◌, ap}
+use mathlib.Core.Bool.{true, false}
 use mathlib.Core.List.{List, []}
-use Prim.Native.Nat.{ℕ, suc, ◌<◌}
-use native.Mathlib.Omega.{arith}
+use Prim.Native.Nat.{ℕ, ◌<◌}
+use Rattle.std.specs.Prelude.{Ok, Err}
+use Rattle.std.specs.Result.{is_ok, IsOk}
+use Rattle.mask.proofs.Tests.{clash}
 use lib.ListN.{length, drop}
 use Rattle.table.specs.declared.Capability.{Capability}
 use Rattle.table.specs.declared.Table.{Table}
 use Rattle.table.specs.Cells.{no_maker, maker_at, IsTable, record_at, slot_at, is_alive, is_active, is_born}
 use Rattle.table.specs.Soundness.{sound}
-use Rattle.take_grant.specs.declared.ImportReply.{ImportReply}
-use Rattle.take_grant.specs.declared.ImportReply.TheVariants as R
-use Rattle.take_grant.specs.declared.Imported.{Imported}
+use Rattle.take_grant.specs.declared.ImportRefusal.{ImportRefusal}
 use Rattle.take_grant.specs.Entities.{Entity, cap_at}
 use Rattle.take_grant.specs.Layout.{IsTakeGrant, table}
 use Rattle.take_grant.specs.Walk.{found, stopped, walk_of}
-use Rattle.take_grant.specs.Imports.{import_number, slot_for, table_of, imported, import_of}
+use Rattle.take_grant.specs.Imports.{slot_for, table_of, imported, import_of, table_after}
 use Rattle.take_grant.specs.Stores.{Joined}
 use Rattle.take_grant.specs.Exactness.{LaidOut, of_entities, WalkExact, AcceptsExactly, GivesBack, OneReading, UnbornOnRefusal, AlwaysSound, AlwaysTable, NoStock, NobodyMade, AliveActive, Numbered, InPlace, RightByRight, EachOther, StoreJoins, StoreConnects, SharingJoins}
 use Rattle.take_grant.proofs.Finds.{by_found}
-use Rattle.take_grant.proofs.Refusals.{walk_refuses}
 use Rattle.take_grant.proofs.Rights.{rows_of_lem}
 use Rattle.take_grant.proofs.Tables.{table_none}
 use Rattle.take_grant.proofs.Grammar.{walked, walk_laid, laid_walk}
@@ -29,16 +28,16 @@ use Rattle.take_grant.proofs.Legal.{Legal, none_legal, slot_rights, record_at_le
 use Rattle.take_grant.proofs.Joined.{joined_each, connected_joined, shares_joined}
 
 -- the import by what the walk found
-import_found : (bytes : List ℕ) (es : List Entity) (rest : List ℕ) → walk_of bytes ≡ found es rest → import_of bytes ≡ record { reply = R.Done; table = table_of es }
+import_found : (bytes : List ℕ) (es : List Entity) (rest : List ℕ) → walk_of bytes ≡ found es rest → import_of bytes ≡ Ok (table_of es)
 unfolding import_of
 import_found bytes es rest e = ap imported e
 
-import_stopped : (bytes : List ℕ) (why : ImportReply) → walk_of bytes ≡ stopped why → import_of bytes ≡ imported (stopped why)
+import_stopped : (bytes : List ℕ) (why : ImportRefusal) → walk_of bytes ≡ stopped why → import_of bytes ≡ Err why
 unfolding import_of
 import_stopped bytes why e = ap imported e
 
 -- the walk and the grammar -------------------------------------------------------------------
-import_laid : (es : List Entity) (bytes : List ℕ) → IsTakeGrant es bytes → import_of bytes ≡ record { reply = R.Done; table = table_of es }
+import_laid : (es : List Entity) (bytes : List ℕ) → IsTakeGrant es bytes → import_of bytes ≡ Ok (table_of es)
 import_laid es bytes g = import_found bytes es [] (laid_walk es bytes g)
 
 pub gives_back : GivesBack
@@ -54,12 +53,12 @@ unfolding AcceptsExactly
 accepts_exactly bytes b = (
   λ n. by_found (walk_of bytes)
       (λ es rest e. of_entities es (walk_laid bytes es rest b e))
-      (λ why e. absurd (walk_refuses bytes why e (ap (λ (i : Imported). import_number i.reply) (sym (import_stopped bytes why e)) ∙ n))),
+      (λ why e. let z : is_ok (import_of bytes) ≡ false = ap is_ok (import_stopped bytes why e) in clash n z),
   λ l. accepted l,
 )
   where
-    accepted : LaidOut bytes → import_number (import_of bytes).reply ≡ 0
-    accepted (of_entities es g) = ap (λ (i : Imported). import_number i.reply) (import_laid es bytes g)
+    accepted : LaidOut bytes → IsOk (import_of bytes)
+    accepted (of_entities es g) = ap is_ok (import_laid es bytes g)
 
 pub one_reading : OneReading
 unfolding OneReading
@@ -68,25 +67,23 @@ one_reading es ds bytes g h = let p = laid_walk es bytes g in let q = laid_walk 
 -- what comes in, accepted or not ----------------------------------------------------------------
 pub unborn_on_refusal : UnbornOnRefusal
 unfolding UnbornOnRefusal
-unborn_on_refusal bytes k n = by_found (walk_of bytes)
-    (λ es rest e. let z : 0 ≡ suc k = ap (λ (i : Imported). import_number i.reply) (sym (import_found bytes es rest e)) ∙ n in absurd (omega arith))
-    (λ why e. ap (λ (i : Imported). i.table) (import_stopped bytes why e))
+unborn_on_refusal bytes why e = ap table_after e
 
 -- a fact of the table of every legal entities is one of every import: on a refusal there is none of them
-always : (P : Table → Type 0) → ((es : List Entity) → Legal es → P (table_of es)) → (bytes : List ℕ) → P (import_of bytes).table
+always : (P : Table → Type 0) → ((es : List Entity) → Legal es → P (table_of es)) → (bytes : List ℕ) → P (table_after (import_of bytes))
 always P f bytes = by_found (walk_of bytes)
     (λ es rest e. let w = walked bytes es rest e in
     rw (import_found bytes es rest e) (f es (record { few = w.few; laid = drop 4 bytes; row = w.row })))
     (λ why e. rw (import_stopped bytes why e, table_none) (f [] none_legal))
 
-pub import_is_sound : (bytes : List ℕ) → sound (import_of bytes).table ≡ true
+pub import_is_sound : (bytes : List ℕ) → sound (table_after (import_of bytes)) ≡ true
 import_is_sound = always (λ t. sound t ≡ true) legal_sound
 
 pub always_sound : AlwaysSound
 unfolding AlwaysSound
 always_sound = import_is_sound
 
-pub import_is_table : (bytes : List ℕ) → IsTable (import_of bytes).table
+pub import_is_table : (bytes : List ℕ) → IsTable (table_after (import_of bytes))
 import_is_table = always IsTable legal_table
 
 pub always_table : AlwaysTable
@@ -117,7 +114,7 @@ numbered es bytes g n h = rw (import_laid es bytes g) (record_at_lem es (legal e
 pub in_place : InPlace
 unfolding InPlace
 in_place es bytes g n k h =
-    let e : slot_at (import_of bytes).table n k ≡ slot_for (cap_at es n k) = rw (import_laid es bytes g) (slot_at_lem es (legal es bytes g) n k h) in
+    let e : slot_at (table_after (import_of bytes)) n k ≡ slot_for (cap_at es n k) = rw (import_laid es bytes g) (slot_at_lem es (legal es bytes g) n k h) in
     (e, ap (λ (c : Capability). c.rights) e ∙ slot_rights (cap_at es n k))
 
 pub right_by_right : RightByRight
@@ -125,7 +122,7 @@ unfolding RightByRight
 right_by_right = rows_of_lem
 
 -- Store links -----------------------------------------------------------------------------------------
-joined_import : (es : List Entity) (bytes : List ℕ) → IsTakeGrant es bytes → (x y : ℕ) → x < length es → Joined es x y → EachOther (import_of bytes).table x y
+joined_import : (es : List Entity) (bytes : List ℕ) → IsTakeGrant es bytes → (x y : ℕ) → x < length es → Joined es x y → EachOther (table_after (import_of bytes)) x y
 joined_import es bytes g x y h j = rw (import_laid es bytes g) (joined_each es (legal es bytes g) h j)
 
 pub store_joins : StoreJoins

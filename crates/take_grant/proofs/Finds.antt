@@ -8,17 +8,17 @@ use native.Mathlib.Numerals.{add-one}
 use native.Mathlib.Omega.{arith}
 use lib.ListN.{length, get_or, drop, drop_of_length-le}
 use lib.Seq.{drop-cons}
-use Rattle.take_grant.specs.declared.ImportReply.{ImportReply}
-use Rattle.take_grant.specs.declared.ImportReply.TheVariants as R
+use Rattle.take_grant.specs.declared.ImportRefusal.{ImportRefusal}
+use Rattle.take_grant.specs.declared.ImportRefusal.TheVariants as R
 use Rattle.take_grant.specs.Walk.{Found, found, stopped, and_then, byte_from, several}
 
 -- by what was found, with the equation
-pub by_found : {A P : Type 0} (f : Found A) → ((x : A) (rest : List ℕ) → f ≡ found x rest → P) → ((why : ImportReply) → f ≡ stopped why → P) → P
+pub by_found : {A P : Type 0} (f : Found A) → ((x : A) (rest : List ℕ) → f ≡ found x rest → P) → ((why : ImportRefusal) → f ≡ stopped why → P) → P
 by_found (found x rest) g h = g x rest refl
 by_found (stopped why) g h = h why refl
 
 -- nothing is both found and stopped
-pub not_both : {A P : Type 0} {f : Found A} {x : A} {rest : List ℕ} {why : ImportReply} → f ≡ found x rest → f ≡ stopped why → P
+pub not_both : {A P : Type 0} {f : Found A} {x : A} {rest : List ℕ} {why : ImportRefusal} → f ≡ found x rest → f ≡ stopped why → P
 not_both p q = let z : ◌≡◌ {A = ℕ} 0 1 = cc in absurd (omega arith)
 
 -- what comes after something that was found
@@ -53,11 +53,11 @@ module _ {A : Type 0} (item : List ℕ → Found A) where
   unfolding several
   several_cons k bytes x rest xs left e f = rw (e, f) refl
 
-  several_stop : (k : ℕ) (bytes : List ℕ) (why : ImportReply) → item bytes ≡ stopped why → several item (suc k) bytes ≡ stopped why
+  several_stop : (k : ℕ) (bytes : List ℕ) (why : ImportRefusal) → item bytes ≡ stopped why → several item (suc k) bytes ≡ stopped why
   unfolding several
   several_stop k bytes why e = rw e refl
 
-  several_later : (k : ℕ) (bytes : List ℕ) (x : A) (rest : List ℕ) (why : ImportReply)
+  several_later : (k : ℕ) (bytes : List ℕ) (x : A) (rest : List ℕ) (why : ImportRefusal)
       → item bytes ≡ found x rest → several item k rest ≡ stopped why → several item (suc k) bytes ≡ stopped why
   unfolding several
   several_later k bytes x rest why e f = rw (e, f) refl
@@ -96,7 +96,7 @@ module _ {A : Type 0} (item : List ℕ → Found A) where
       rw (← c.all) (several_cons (suc k) bytes c.first c.rest (c.others ++ (x ∷ [])) left c.read (several_more k c.rest c.others rest x left c.later f))
 
   -- the offence that comes next stops them all
-  pub several_stops : (k m : ℕ) (bytes : List ℕ) (xs : List A) (rest : List ℕ) (why : ImportReply)
+  pub several_stops : (k m : ℕ) (bytes : List ℕ) (xs : List A) (rest : List ℕ) (why : ImportRefusal)
       → several item k bytes ≡ found xs rest → item rest ≡ stopped why → k < m → several item m bytes ≡ stopped why
   several_stops k zero bytes xs rest why e f h = absurd (omega arith)
   several_stops zero (suc m) bytes xs rest why e f h = several_stop m bytes why (ap item (sym (none_of bytes xs rest e).1) ∙ f)

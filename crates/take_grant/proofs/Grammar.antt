@@ -13,7 +13,7 @@ use Rattle.mask.proofs.Tests.{by_cases, by_eq}
 use Rattle.octets.specs.BigEndian.{Bytes, byte_at, bytes_of, number_of}
 use Rattle.octets.proofs.BigEndian.{number_written, bytes_read}
 use Rattle.octets.proofs.Parts.{beside, bytes_take}
-use Rattle.take_grant.specs.declared.ImportReply.TheVariants as R
+use Rattle.take_grant.specs.declared.ImportRefusal.TheVariants as R
 use Rattle.take_grant.specs.Entities.{Cap, Entity}
 use Rattle.take_grant.specs.Layout.{Row, none, next, IsCapability, capability, IsEntity, entity, IsTakeGrant, table}
 use Rattle.take_grant.specs.Walk.{Found, found, stopped, and_then, byte_from, several, cap_from, entity_from, at_end, entities_from, walk_of}

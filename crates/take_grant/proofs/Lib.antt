@@ -7,6 +7,6 @@ pub mod Loops
 pub mod Heads
 pub mod Grammar
 pub mod Legal
-pub mod Refusals
 pub mod Joined
 pub mod Claims
+pub mod Refusals

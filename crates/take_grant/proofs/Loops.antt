@@ -8,17 +8,16 @@ use lib.Dec.{leb}
 use lib.ListN.{length, get_or, drop, drop_of_length-le}
 use lib.Seq.{drop-cons}
 use borrow.Author.Tests.{le-leb, lt-leb}
+use Rattle.std.specs.Prelude.{Result, Ok, Err}
 use Rattle.table.specs.declared.Capability.{Capability}
 use Rattle.table.specs.declared.Record.{Record}
 use Rattle.table.specs.declared.Table.{Table}
 use Rattle.table.specs.Cells.{unborn_table, put_record, put_slot}
-use Rattle.take_grant.specs.declared.ImportReply.{ImportReply}
-use Rattle.take_grant.specs.declared.ImportReply.TheVariants as R
-use Rattle.take_grant.specs.declared.Held.{Held}
-use Rattle.take_grant.specs.declared.Held.TheVariants.{Slot, Stop}
+use Rattle.take_grant.specs.declared.ImportRefusal.{ImportRefusal}
+use Rattle.take_grant.specs.declared.ImportRefusal.TheVariants as R
 use Rattle.take_grant.specs.Entities.{Cap, Entity}
 use Rattle.take_grant.specs.Walk.{found, stopped, byte_from, several, cap_from, entity_from, entities_from}
-use Rattle.take_grant.specs.Imports.{entity_record, table_of, refused_import, imported}
+use Rattle.take_grant.specs.Imports.{entity_record, table_of, imported}
 use Rattle.take_grant.specs.Helpers.{held_of}
 use Rattle.take_grant.proofs.Finds.{byte_there, byte_none, byte_bad, several_more, several_stops, several_length}
 use Rattle.take_grant.proofs.Places.{read_slot, read_stop}
@@ -44,8 +43,8 @@ module _ (bytes : List ℕ) (count : ℕ) where
     pub within : at ≤ length bytes
 
   -- the next entity stops the walk
-  stops : (m : ℕ) (es : List Entity) (rest : List ℕ) (why : ImportReply) → several (entity_from count) m (drop 4 bytes) ≡ found es rest → entity_from count rest ≡ stopped why → m < count
-      → imported (entities_from count (drop 4 bytes)) ≡ refused_import why
+  stops : (m : ℕ) (es : List Entity) (rest : List ℕ) (why : ImportRefusal) → several (entity_from count) m (drop 4 bytes) ≡ found es rest → entity_from count rest ≡ stopped why → m < count
+      → imported (entities_from count (drop 4 bytes)) ≡ Err why
   unfolding entities_from
   stops m es rest why e f h = rw (several_stops (entity_from count) m count (drop 4 bytes) es rest why e f h) refl
 
@@ -54,11 +53,11 @@ module _ (bytes : List ℕ) (count : ℕ) where
   taken_none t h e = record { es = []; read = refl; table = e ∙ table_none; within = h }
 
   module _ (m at : ℕ) (t : Table) (k : Taken m at t) where
-    pub count_none : m < count → length bytes ≤ at → imported (entities_from count (drop 4 bytes)) ≡ refused_import R.LengthWrong
+    pub count_none : m < count → length bytes ≤ at → imported (entities_from count (drop 4 bytes)) ≡ Err R.LengthWrong
     unfolding entity_from
     count_none h g = stops m k.es (drop at bytes) R.LengthWrong k.read (rw (byte_none (λ b. leb b 8) bytes at g) refl) h
 
-    pub count_bad : m < count → at < length bytes → 8 < get_or bytes at 0 → imported (entities_from count (drop 4 bytes)) ≡ refused_import R.ValueWrong
+    pub count_bad : m < count → at < length bytes → 8 < get_or bytes at 0 → imported (entities_from count (drop 4 bytes)) ≡ Err R.ValueWrong
     unfolding entity_from
     count_bad h g l = stops m k.es (drop at bytes) R.ValueWrong k.read (rw (byte_bad (λ b. leb b 8) bytes at g (lt-leb _ 8 l)) refl) h
 
@@ -76,18 +75,18 @@ module _ (bytes : List ℕ) (count : ℕ) where
     }
 
     -- after the last entity
-    pub more_left : m ≡ count → at < length bytes → imported (entities_from count (drop 4 bytes)) ≡ refused_import R.LengthWrong
+    pub more_left : m ≡ count → at < length bytes → imported (entities_from count (drop 4 bytes)) ≡ Err R.LengthWrong
     unfolding entities_from
     more_left h g = let e : several (entity_from count) count (drop 4 bytes) ≡ found k.es (drop at bytes) = rw h at k.read in
         rw (e, drop-cons bytes at 0 g) refl
 
-    pub none_left : m ≡ count → length bytes ≤ at → record { reply = R.Done; table = t } ≡ imported (entities_from count (drop 4 bytes))
+    pub none_left : m ≡ count → length bytes ≤ at → Ok t ≡ imported (entities_from count (drop 4 bytes))
     unfolding entities_from
     none_left h g = let e : several (entity_from count) count (drop 4 bytes) ≡ found k.es (drop at bytes) = rw h at k.read in
-        rw (e, drop_of_length-le bytes g) (ap (λ (x : Table). record { reply = R.Done; table = x }) k.table)
+        rw (e, drop_of_length-le bytes g) (ap Ok k.table)
 
   module _ (m from capabilities k at : ℕ) (t : Table) (w : Within m from capabilities k at t) where
-    pub cap_more : (h : Held) (s : Capability) → m < 64 → k < 8 → h ≡ held_of (cap_from count (drop at bytes)) → h ≡ Slot s → Within m from capabilities (k + 1) (at + 2) (put_slot t m k s)
+    pub cap_more : (h : Result Capability ImportRefusal) (s : Capability) → m < 64 → k < 8 → h ≡ held_of (cap_from count (drop at bytes)) → h ≡ Ok s → Within m from capabilities (k + 1) (at + 2) (put_slot t m k s)
     cap_more h s l g e f =
         let r = read_slot count bytes at h s e f in
         let x = several_length (entity_from count) m (drop 4 bytes) w.es w.rest w.read in
@@ -103,11 +102,11 @@ module _ (bytes : List ℕ) (count : ℕ) where
           within = r.within;
         }
 
-    pub cap_fits : (h : Held) (s : Capability) → h ≡ held_of (cap_from count (drop at bytes)) → h ≡ Slot s → at + 2 ≤ length bytes
+    pub cap_fits : (h : Result Capability ImportRefusal) (s : Capability) → h ≡ held_of (cap_from count (drop at bytes)) → h ≡ Ok s → at + 2 ≤ length bytes
     cap_fits h s e f = (read_slot count bytes at h s e f).within
 
-    pub cap_stop : (h : Held) (why : ImportReply) → m < count → k < capabilities → h ≡ held_of (cap_from count (drop at bytes)) → h ≡ Stop why
-        → imported (entities_from count (drop 4 bytes)) ≡ refused_import why
+    pub cap_stop : (h : Result Capability ImportRefusal) (why : ImportRefusal) → m < count → k < capabilities → h ≡ held_of (cap_from count (drop at bytes)) → h ≡ Err why
+        → imported (entities_from count (drop 4 bytes)) ≡ Err why
     unfolding entity_from
     cap_stop h why l g e f =
         let s = several_stops (cap_from count) k capabilities (drop from bytes) w.cs (drop at bytes) why w.held (read_stop count bytes at h why e f) g in

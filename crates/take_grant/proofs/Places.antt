@@ -7,11 +7,10 @@ use lib.Dec.{ltb, leb}
 use lib.ListN.{length, get_or, drop}
 use borrow.Author.Tests.{lt-ltb, le-ltb, le-leb, lt-leb, ltb-true, ltb-false, leb-true, leb-false}
 use Rattle.mask.proofs.Tests.{by_cases}
+use Rattle.std.specs.Prelude.{Result, Ok, Err}
 use Rattle.table.specs.declared.Capability.{Capability}
-use Rattle.take_grant.specs.declared.ImportReply.{ImportReply}
-use Rattle.take_grant.specs.declared.ImportReply.TheVariants as R
-use Rattle.take_grant.specs.declared.Held.{Held}
-use Rattle.take_grant.specs.declared.Held.TheVariants.{Slot, Stop}
+use Rattle.take_grant.specs.declared.ImportRefusal.{ImportRefusal}
+use Rattle.take_grant.specs.declared.ImportRefusal.TheVariants as R
 use Rattle.take_grant.specs.Entities.{Cap}
 use Rattle.take_grant.specs.Walk.{found, stopped, byte_from, cap_from}
 use Rattle.take_grant.specs.Imports.{slot_for}
@@ -72,15 +71,15 @@ module _ (n : ℕ) (bytes : List ℕ) (at : ℕ) where
     pub slot : s ≡ slot_for cap
     pub within : at + 2 ≤ length bytes
 
-  pub read_slot : (h : Held) (s : Capability) → h ≡ held_of (cap_from n (drop at bytes)) → h ≡ Slot s → Read s
+  pub read_slot : (h : Result Capability ImportRefusal) (s : Capability) → h ≡ held_of (cap_from n (drop at bytes)) → h ≡ Ok s → Read s
   read_slot h s e f = by_found (cap_from n (drop at bytes))
       (λ c rest g.
       let st = stands c rest g in
-      let q : Slot s ≡ Slot (slot_for c) = sym f ∙ e ∙ ap held_of g in
+      let q : Ok s ≡ Ok (slot_for c) = sym f ∙ e ∙ ap held_of g in
       record { cap = c; found_there = g ∙ ap (found c) st.after; slot = cc; within = st.within })
-      (λ why g. let q : Slot s ≡ Stop why = sym f ∙ e ∙ ap held_of g in let z : ◌≡◌ {A = ℕ} 0 1 = cc in absurd (omega arith))
+      (λ why g. let q : Ok s ≡ Err why = sym f ∙ e ∙ ap held_of g in let z : ◌≡◌ {A = ℕ} 0 1 = cc in absurd (omega arith))
 
-  pub read_stop : (h : Held) (why : ImportReply) → h ≡ held_of (cap_from n (drop at bytes)) → h ≡ Stop why → cap_from n (drop at bytes) ≡ stopped why
+  pub read_stop : (h : Result Capability ImportRefusal) (why : ImportRefusal) → h ≡ held_of (cap_from n (drop at bytes)) → h ≡ Err why → cap_from n (drop at bytes) ≡ stopped why
   read_stop h why e f = by_found (cap_from n (drop at bytes))
-      (λ c rest g. let q : Stop why ≡ Slot (slot_for c) = sym f ∙ e ∙ ap held_of g in let z : ◌≡◌ {A = ℕ} 0 1 = cc in absurd (omega arith))
-      (λ other g. let q : Stop why ≡ Stop other = sym f ∙ e ∙ ap held_of g in let r : other ≡ why = cc in g ∙ ap stopped r)
+      (λ c rest g. let q : Err why ≡ Ok (slot_for c) = sym f ∙ e ∙ ap held_of g in let z : ◌≡◌ {A = ℕ} 0 1 = cc in absurd (omega arith))
+      (λ other g. let q : Err why ≡ Err other = sym f ∙ e ∙ ap held_of g in let r : other ≡ why = cc in g ∙ ap stopped r)

@@ -1,20 +1,19 @@
--- Document 02, 2.2: the table that entities become, and what the import returns. On every refusal that is the wholly unborn table.
-use Rattle.std.specs.Prelude.{true, false, List, ℕ, ◌/◌, ◌%◌, ltb, eqb, length}
+-- Document 02, 2.2: the table that entities become, and what the import returns. On every refusal the wholly unborn table goes on in its place.
+use Rattle.std.specs.Prelude.{true, false, List, ℕ, ◌/◌, ◌%◌, ltb, eqb, length, Result, Ok, Err}
+use Rattle.std.specs.Result.{result_unwrap_or}
 use Rattle.table.specs.declared.Capability.{Capability}
 use Rattle.table.specs.declared.Record.{Record}
 use Rattle.table.specs.declared.Table.{Table}
 use Rattle.table.specs.Lists.{tabulate}
 use Rattle.table.specs.Cells.{no_maker, empty_slot, unborn_record, unborn_table}
-use Rattle.take_grant.specs.declared.ImportReply.{ImportReply}
-use Rattle.take_grant.specs.declared.ImportReply.TheVariants as R
-use Rattle.take_grant.specs.declared.Imported.{Imported}
+use Rattle.take_grant.specs.declared.ImportRefusal.{ImportRefusal}
+use Rattle.take_grant.specs.declared.ImportRefusal.TheVariants as R
 use Rattle.take_grant.specs.Entities.{Cap, Entity, mapped, cap_at}
 use Rattle.take_grant.specs.Walk.{Found, found, stopped, walk_of}
 
 -- "20 if the length field is not the slice's length or the entities do not end there; 21 if the version byte is not 1; 22 if a count, a target at or
 -- above the entity count, or rights above 31 stand inside"
-abbrev pub import_number : ImportReply → ℕ
-import_number R.Done = 0
+abbrev pub import_number : ImportRefusal → ℕ
 import_number R.LengthWrong = 20
 import_number R.VersionWrong = 21
 import_number R.ValueWrong = 22
@@ -35,15 +34,15 @@ slot_for c = elim (eqb (mapped c.rights) 0) [ true ↦ empty_slot | false ↦ re
 unfoldable pub table_of : List Entity → Table
 table_of es = record { records = tabulate 64 (record_for es); slots = tabulate 512 (λ i. slot_for (cap_at es (i / 8) (i % 8))) }
 
--- a refusal, with the wholly unborn table
-abbrev pub refused_import : ImportReply → Imported
-refused_import why = record { reply = why; table = unborn_table }
-
 -- what is given back for what the walk found
-abbrev pub imported : Found (List Entity) → Imported
-imported (found es rest) = record { reply = R.Done; table = table_of es }
-imported (stopped why) = refused_import why
+abbrev pub imported : Found (List Entity) → Result Table ImportRefusal
+imported (found es rest) = Ok (table_of es)
+imported (stopped why) = Err why
 
--- the import: bytes in, reply and table out
-unfoldable pub import_of : List ℕ → Imported
+-- the import: bytes in, a table out
+unfoldable pub import_of : List ℕ → Result Table ImportRefusal
 import_of bytes = imported (walk_of bytes)
+
+-- the table that there is after an import, which is the wholly unborn one on a refusal
+abbrev pub table_after : Result Table ImportRefusal → Table
+table_after r = result_unwrap_or r unborn_table

@@ -2,14 +2,14 @@
 -- count. The entity walk follows byte by byte, and its first offence gives 22, or 20 for a wrong end."
 use Rattle.std.specs.Prelude.{Bool, true, false, List, [], ◌∷◌, ℕ, zero, suc, ltb, leb, eqb, length, take, drop}
 use Rattle.octets.specs.BigEndian.{byte_at, number_of}
-use Rattle.take_grant.specs.declared.ImportReply.{ImportReply}
-use Rattle.take_grant.specs.declared.ImportReply.TheVariants as R
+use Rattle.take_grant.specs.declared.ImportRefusal.{ImportRefusal}
+use Rattle.take_grant.specs.declared.ImportRefusal.TheVariants as R
 use Rattle.take_grant.specs.Entities.{Cap, Entity}
 
 -- what was read with the bytes that are left, or why the walk stopped
 pub data Found (A : Type 0) : Type 0 where
   found : A → List ℕ → Found A
-  stopped : ImportReply → Found A
+  stopped : ImportRefusal → Found A
 
 -- what comes next, unless the walk has stopped
 abbrev pub and_then : {A B : Type 0} → Found A → (A → List ℕ → Found B) → Found B

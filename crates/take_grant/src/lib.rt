@@ -1,37 +1,22 @@
-// The tables of the older rigs, document 02, 2.2: bytes in, reply and table out. A capability, then the entities, then what the head is checked
-// for. Nothing is kept of bytes that are refused.
+// The tables of the older rigs, document 02, 2.2: bytes in, a table out. A capability, then the entities, then what the head is checked for.
+// Nothing is kept of bytes that are refused.
 #![tactic(auto)]
 
 ghost use Rattle.std.specs.Prelude.{◌≡◌, cond, ◌≤◌, length, drop};
 ghost use Rattle.mask.specs.Sets.{has};
 ghost use Rattle.take_grant.specs.Entities.{mapped as mapped_rights};
 ghost use Rattle.take_grant.specs.Walk.{cap_from, entities_from};
-ghost use Rattle.take_grant.specs.Imports.{entity_record, slot_for, refused_import, imported, import_of};
-ghost use Rattle.take_grant.specs.Helpers.{held_of, head_of};
+ghost use Rattle.take_grant.specs.Imports.{entity_record, slot_for, imported, import_of};
+ghost use Rattle.take_grant.specs.Helpers.{held_of};
 
 use table::{Capability, Record, Table};
 
-// Done, or why bytes were not brought in.
-#[derive(Clone, Copy)]
-pub enum ImportReply {
-    Done,
+// Why bytes were not brought in.
+#[derive(Debug, Clone, Copy, PartialEq, Eq)]
+pub enum ImportRefusal {
     LengthWrong,
     VersionWrong,
     ValueWrong,
-}
-
-// What an import gives: on every refusal the wholly unborn table. The table stands first, so that no copy of it has to be moved.
-#[derive(Clone, Copy)]
-pub struct Imported {
-    pub table: Table,
-    pub reply: ImportReply,
-}
-
-// What stands at a place: a capability, as the slot that it becomes, or why there is none.
-#[derive(Clone, Copy)]
-enum Held {
-    Slot(Capability),
-    Stop(ImportReply),
 }
 
 // The head: a length of two bytes, the version, the entity count.
@@ -64,10 +49,7 @@ fn slot_for(target: u8, rights: u8) -> Capability
 {
     let kept = mapped(rights);
     if kept == 0 {
-        return Capability {
-            target: 0,
-            rights: 0,
-        };
+        return Capability::EMPTY;
     }
     Capability {
         target: target,
@@ -75,24 +57,23 @@ fn slot_for(target: u8, rights: u8) -> Capability
     }
 }
 
-// The capability at a place, byte by byte, in a table of `count` entities.
-fn held_at(bytes: &[u8], at: usize, count: u8) -> Held
+// The slot that the capability at a place becomes, byte by byte, in a table of `count` entities.
+fn held_at(bytes: &[u8], at: usize, count: u8) -> Result<Capability, ImportRefusal>
     ensures { result ≡ held_of (cap_from count (drop at bytes.now)) }
 {
     if bytes.len() <= at {
-        return Held::Stop(ImportReply::LengthWrong);
+        return Err(ImportRefusal::LengthWrong);
     }
     if count <= bytes[at] {
-        return Held::Stop(ImportReply::ValueWrong);
+        return Err(ImportRefusal::ValueWrong);
     }
     if bytes.len() <= at + 1 {
-        return Held::Stop(ImportReply::LengthWrong);
+        return Err(ImportRefusal::LengthWrong);
     }
     if 31 < bytes[at + 1] {
-        return Held::Stop(ImportReply::ValueWrong);
+        return Err(ImportRefusal::ValueWrong);
     }
-    let slot = slot_for(bytes[at], bytes[at + 1]);
-    Held::Slot(slot)
+    Ok(slot_for(bytes[at], bytes[at + 1]))
 }
 
 // What an entity becomes: alive, active, word 0, no stock, and made by nobody.
@@ -108,85 +89,53 @@ fn entity_record() -> Record
     }
 }
 
-// What a refused import gives back.
-fn refused(reply: ImportReply) -> Imported
-    ensures { result ≡ refused_import reply }
-{
-    let t = table::unborn_table();
-    Imported {
-        table: t,
-        reply: reply,
-    }
-}
-
 // The walk over the entities, which stand after the head and end where the bytes end. A table that is begun is given up at the first offence.
-fn entities(bytes: &[u8], count: u8) -> Imported
+fn entities(bytes: &[u8], count: u8) -> Result<Table, ImportRefusal>
     requires { (count ≤ 64) × (4 ≤ length bytes.now) }
     ensures { result ≡ imported (entities_from count (drop 4 bytes.now)) }
 {
     let mut t = table::unborn_table();
-    let mut at: usize = HEAD_LENGTH;
-    let mut n: usize = 0;
-    'entities: while n < count as usize {
+    let mut at = HEAD_LENGTH;
+    'entities: for n in 0..count as usize {
         if bytes.len() <= at {
-            return refused(ImportReply::LengthWrong);
+            return Err(ImportRefusal::LengthWrong);
         }
         let capabilities = bytes[at];
         if 8 < capabilities {
-            return refused(ImportReply::ValueWrong);
+            return Err(ImportRefusal::ValueWrong);
         }
-        at = at + 1;
-        let alive = entity_record();
-        t.records[n] = alive;
-        let mut k: usize = 0;
-        'capabilities: while k < capabilities as usize {
-            let held = held_at(bytes, at, count);
-            match held {
-                Held::Slot(c) => t.slots[n * 8 + k] = c,
-                Held::Stop(why) => return refused(why),
-            }
-            at = at + 2;
-            k = k + 1;
+        at += 1;
+        t.records[n] = entity_record();
+        'capabilities: for k in 0..capabilities as usize {
+            let slot = held_at(bytes, at, count)?;
+            t.slots[n * 8 + k] = slot;
+            at += 2;
         }
-        n = n + 1;
     }
     if at < bytes.len() {
-        return refused(ImportReply::LengthWrong);
+        return Err(ImportRefusal::LengthWrong);
     }
-    Imported {
-        table: t,
-        reply: ImportReply::Done,
-    }
+    Ok(t)
 }
 
-// The first cause in the head, in this order: a length field that does not fit the slice, a version that is not known, too many entities.
-fn head_reply(fits: bool, known: bool, few: bool) -> ImportReply
-    ensures { result ≡ head_of fits known few }
-{
-    if !fits {
-        return ImportReply::LengthWrong;
-    }
-    if !known {
-        return ImportReply::VersionWrong;
-    }
-    if !few {
-        return ImportReply::ValueWrong;
-    }
-    ImportReply::Done
-}
-
-// Brings a table in: 20 for a wrong length, 21 for a wrong version, 22 for a value that may not stand where it stands.
-pub fn import(bytes: &[u8]) -> Imported
+// Brings a table in. The first cause decides: 20 for a length field that does not fit the slice, 21 for a version that is not known, 22 for too
+// many entities; then what the walk stops at, 22 for a value that may not stand where it stands and 20 for a wrong end.
+pub fn import(bytes: &[u8]) -> Result<Table, ImportRefusal>
     ensures { result ≡ import_of bytes.now }
 {
     if bytes.len() < HEAD_LENGTH {
-        return refused(ImportReply::LengthWrong);
+        return Err(ImportRefusal::LengthWrong);
     }
     let said = octets::number_of(&bytes[..2]);
+    if said != bytes.len() as u64 {
+        return Err(ImportRefusal::LengthWrong);
+    }
+    if bytes[2] != 1 {
+        return Err(ImportRefusal::VersionWrong);
+    }
     let count = bytes[3];
-    let reply = head_reply(said == bytes.len() as u64, bytes[2] == 1, count <= 64);
-    let ImportReply::Done = reply else {
-        return refused(reply);
-    };
+    if 64 < count {
+        return Err(ImportRefusal::ValueWrong);
+    }
     entities(bytes, count)
 }

@@ -1,106 +1,77 @@
 // Requests: each on a table of its own, or in a chain where each gets the table that the one before it left.
 // A case is the 1,984 bytes of a table and the 29 of a request; a chain is a table and then requests alone.
 use captable::Outcome;
-use cases::{digest, input};
-use parts::{output, source};
+use cases::digest;
+use cases::input::Input;
+use parts::source;
 use requests::{PairList, Request};
 use std::io::{self, Read, Write};
-use steps::Stepped;
 use table::Table;
 
-// Whether there was a case, and the table for the next one.
-#[derive(Clone, Copy)]
-pub struct Turn {
-    pub found: bool,
-    pub table: Table,
-}
-
-// A turn that leaves the table as it was.
-pub fn kept(found: bool, t: Table) -> Turn {
-    Turn {
-        found: found,
-        table: t,
-    }
-}
-
 // Prints the line of a step.
-fn line<W: Write>(out: &mut W, number: u64, reply: u8, after: Table) -> io::Result<()> {
-    output::number(out, number)?;
-    output::number(out, reply as u64)?;
-    output::digest(out, digest::of_table(after))?;
-    output::text(out, b"\n")
+fn line<W: Write>(out: &mut W, number: u64, after: Outcome) -> io::Result<()> {
+    let reply = after.number;
+    writeln!(
+        out,
+        "{number} {reply} {:08x}",
+        digest::of_table(after.table)
+    )
 }
 
-// Prints the line of a step by value, and gives the table after it.
-fn answer<W: Write>(out: &mut W, number: u64, stepped: Stepped) -> io::Result<Table> {
-    let reply = stepped.reply;
-    let after = stepped.table;
-    line(out, number, numbers::of_reply(reply), after)?;
-    Ok(after)
-}
-
-// The same of a step on the table lent.
-fn answer_lent<W: Write>(out: &mut W, number: u64, outcome: Outcome) -> io::Result<Table> {
-    let after = outcome.table;
-    line(out, number, outcome.number, after)?;
-    Ok(after)
-}
-
-pub fn case<R: Read, W: Write>(from: &mut R, out: &mut W, number: u64) -> io::Result<bool> {
-    let mut bytes = [0u8; 2013];
-    if !source::fill(from, &mut bytes)? {
-        return Ok(false);
-    }
-    let t = input::raw_table(&bytes);
-    let request = input::request(&bytes, 1984);
-    let list = input::pair_list(&bytes, 1984);
-    answer(out, number, kernel::step(t, request, list))?;
-    Ok(true)
-}
-
-pub fn chain_start<R: Read>(from: &mut R) -> io::Result<Table> {
-    let mut bytes = [0u8; 1984];
-    source::fill(from, &mut bytes)?;
-    Ok(input::raw_table(&bytes))
-}
-
-// A step on the table lent, with the first `count` of the bytes.
-fn lent_bytes(t: Table, bytes: &[u8], count: usize) -> Outcome {
-    if bytes.len() < count {
-        return captable::stepped_in_place(t, bytes);
-    }
-    captable::stepped_in_place(t, &bytes[..count])
+// A step by value.
+pub fn by_value(t: Table, request: Request, list: PairList) -> Outcome {
+    Outcome::from(kernel::step(t, request, list))
 }
 
 // A step on the table lent: the request is written as bytes, as the firmware hands it in. One whose list is too long has none, and is
 // refused by 2 as well.
-fn lent(t: Table, request: Request, list: PairList) -> Outcome {
+pub fn lent(t: Table, request: Request, list: PairList) -> Outcome {
     let written = wire_out::request_bytes(request, list);
     let bytes = written.bytes;
-    lent_bytes(t, &bytes, written.count)
+    captable::stepped_in_place(t, &bytes[..written.count.min(22)])
 }
 
-// The next request of a chain, by value or on the table lent.
-pub fn link<R: Read, W: Write>(
-    from: &mut R,
+pub fn all<R: Read, W: Write>(from: &mut R, out: &mut W) -> io::Result<u64> {
+    source::cases::<2013, _, _, _>(from, out, |_, out, number, bytes| {
+        let mut case = Input::new(bytes);
+        let t = case.table();
+        let request = case.request();
+        line(out, number, by_value(t, request, case.pair_list()))
+    })
+}
+
+// Prints the line of one request of a chain, put to `step`, and gives the table after it.
+fn link<W: Write, F: Fn(Table, Request, PairList) -> Outcome>(
     out: &mut W,
     number: u64,
     t: Table,
-    in_place: bool,
-) -> io::Result<Turn> {
-    let mut bytes = [0u8; 29];
-    if !source::fill(from, &mut bytes)? {
-        return Ok(kept(false, t));
+    bytes: &[u8],
+    step: &F,
+) -> io::Result<Table>
+    requires { F.IsAlwaysCallable step.now }
+{
+    let mut case = Input::new(bytes);
+    let request = case.request();
+    let after = step(t, request, case.pair_list());
+    line(out, number, after)?;
+    Ok(after.table)
+}
+
+// The requests of a chain, each put to `step` with the table that the one before it left; how many there were.
+pub fn chain<R: Read, W: Write, F: Fn(Table, Request, PairList) -> Outcome>(
+    from: &mut R,
+    out: &mut W,
+    step: F,
+) -> io::Result<u64>
+    requires { F.IsAlwaysCallable step }
+{
+    let start: [u8; 1984] = source::next(from)?.unwrap_or([0; 1984]);
+    let mut t = Input::new(&start).table();
+    for done in 0..source::LIMIT {
+        let Some(bytes) = source::next::<29, R>(from)? else {
+            return Ok(done);
+        };
+        t = link(out, done, t, &bytes, &step)?;
     }
-    let request = input::request(&bytes, 0);
-    let list = input::pair_list(&bytes, 0);
-    let after = if in_place {
-        answer_lent(out, number, lent(t, request, list))?
-    } else {
-        answer(out, number, kernel::step(t, request, list))?
-    };
-    Ok(Turn {
-        found: true,
-        table: after,
-    })
+    Ok(source::LIMIT)
 }

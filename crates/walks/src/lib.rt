@@ -9,6 +9,7 @@ ghost use Rattle.walks.specs.Chains.{layers_to, walk_down, least_chain, walked};
 ghost use Rattle.walks.specs.Helpers.{latest_first, in_range};
 
 // The numbers of a chain in turn, and zero past the count.
+// Stays: a rule of the project, fixed memory: a chain has at most 63 numbers.
 #[derive(Clone, Copy)]
 pub struct Walked {
     pub numbers: [u8; 63],
@@ -16,6 +17,7 @@ pub struct Walked {
 }
 
 // What is within 0, 1, 2 .. links of the end, as many as `count` says.
+// Stays: a rule of the project, fixed memory: there are at most 63 sets.
 #[derive(Clone, Copy)]
 struct Layers {
     sets: [u64; 63],
@@ -27,12 +29,10 @@ fn grown_back(words: &[u64; 64], s: u64) -> u64
     ensures { result ≡ grow (λ a b. word_edge words.now b a) s }
 {
     let mut found: u64 = 0;
-    let mut x: usize = 0;
-    while x < 64 {
-        if mask::has(s, x as u8) | !mask::disjoint(s, words[x]) {
+    for (x, word) in words.iter().enumerate() {
+        if mask::has(s, x as u8) | !mask::disjoint(s, *word) {
             found = mask::with(found, x as u8);
         }
-        x = x + 1;
     }
     found
 }
@@ -46,23 +46,14 @@ fn layers_about(words: &[u64; 64], x: u8, z: u8) -> Layers
     let mut s = links::alone(z);
     let mut sets = [0u64; 63];
     sets[0] = s;
-    let mut k: usize = 0;
-    while k < 62 {
+    for k in 0..62 {
         if !mask::disjoint(s, onward) {
-            let made = k + 1;
-            return Layers {
-                sets: sets,
-                count: made,
-            };
+            return Layers { sets, count: k + 1 };
         }
         s = grown_back(words, s);
-        k = k + 1;
-        sets[k] = s;
+        sets[k + 1] = s;
     }
-    Layers {
-        sets: sets,
-        count: 63,
-    }
+    Layers { sets, count: 63 }
 }
 
 // Forward from x through the layers: of each the lowest number one link on.
@@ -74,17 +65,14 @@ fn through(words: &[u64; 64], x: u8, layers: Layers) -> Walked
     let count = layers.count;
     let mut numbers = [0u8; 63];
     let mut at = x as usize;
-    let mut i: usize = 0;
-    while i < count {
+    for i in 0..count {
         let next = bounds::lowest(mask::common(sets[count - 1 - i], words[at]));
         numbers[i] = next as u8;
         at = next;
-        i = i + 1;
     }
-    let total = count as u8;
     Walked {
-        numbers: numbers,
-        count: total,
+        numbers,
+        count: count as u8,
     }
 }
 

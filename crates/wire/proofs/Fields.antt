@@ -7,41 +7,21 @@ use Prim.Native.Nat.{ℕ, ◌+◌, ◌*◌, ◌≤◌, ◌<◌}
 use lib.ListN.{length, get_or-eq_default}
 use borrow.Author.Tests.{ne_eqb}
 use Rattle.mask.proofs.Tests.{by_eq}
-use Rattle.table.specs.Lists.{tabulate, padded}
 use Rattle.table.proofs.Lists.{length_tabulate}
 use Rattle.requests.specs.declared.Pair.{Pair}
 use Rattle.requests.specs.declared.PairList.{PairList}
 use Rattle.requests.specs.declared.Request.{Request}
 use Rattle.requests.specs.declared.Request.TheVariants.{Send, Allocate, Unknown}
-use Rattle.requests.specs.Asks.{read, write, fetch, store, revoke, send, allocate, destroy, reclaim, unknown, pairs_in, no_pair, request_of, held_pairs}
+use Rattle.requests.specs.Asks.{read, write, fetch, store, revoke, send, allocate, destroy, reclaim, unknown, pairs_in, request_of, held_pairs}
 use Rattle.octets.specs.BigEndian.{byte_at}
 use Rattle.octets.proofs.Lists.{get_d_within}
 use Rattle.wire.specs.declared.Asked.{Asked}
-use Rattle.wire.specs.Wires.{code_in, nobody, actor_in, list_place, count_in, fits_of, pair_in, list_in, word_in, part_in, fields_of, ask_from, asked_of}
-
--- a pair that was read at its place of the list
-pub pair_made : (bs : List ℕ) (place k x y : ℕ) → place ≡ list_place (code_in bs) → x ≡ byte_at bs (place + 1 + 2 * k) → y ≡ byte_at bs (place + 2 + 2 * k)
-    → ◌≡◌ {A = Pair} (record { from = x; to = y }) (pair_in bs k)
-pair_made bs place k x y e f g = rw (f, g, e) refl
-
--- the count that was read at the list's place
-module _ (bs : List ℕ) (code place : ℕ) (e : code ≡ code_in bs) (f : place ≡ list_place code) where
-  pub place_read : place ≡ list_place (code_in bs)
-  place_read = f ∙ ap list_place e
-
-  pub count_read : (count : ℕ) → count ≡ byte_at bs place → count ≡ count_in bs
-  count_read count g = g ∙ ap (byte_at bs) place_read
+use Rattle.wire.specs.Wires.{code_in, nobody, actor_in, count_in, fits_of, pair_in, list_in, word_in, part_in, fields_of, ask_from, asked_of}
 
 -- the list: as many pairs as the count says
 pub length_list : (bs : List ℕ) → length (list_in bs) ≡ count_in bs
 unfolding list_in
 length_list bs = length_tabulate (count_in bs) (pair_in bs)
-
-pub list_made : (bs : List ℕ) (count : ℕ) (pairs : List Pair) → count ≡ count_in bs → pairs ≡ padded 4 no_pair (tabulate count (pair_in bs))
-    → ◌≡◌ {A = PairList} (record { count = count; pairs = pairs }) (held_pairs (list_in bs))
-unfolding held_pairs list_in
-list_made bs count pairs e f = ap₂ {C = PairList} (λ (n : ℕ) (x : List Pair). record { count = n; pairs = x })
-    (e ∙ sym (length_tabulate (count_in bs) (pair_in bs))) (f ∙ ap (λ (n : ℕ). padded 4 no_pair (tabulate n (pair_in bs))) e)
 
 -- each code's fields
 module _ (bs : List ℕ) (a t : ℕ) (f : a ≡ actor_in bs) (g : t ≡ byte_at bs 2) where
@@ -133,10 +113,10 @@ module _ (bs : List ℕ) where
   unfolding ask_from
   ask_unfit e = rw (e, ask_from) refl
 
-  pub asked_alone : fits_of bs ≡ true → code_in bs ≢ 6 → code_in bs ≢ 7 → (q : Request) → q ≡ request_of (fields_of bs)
-      → (x : Asked) → x ≡ record { request = q; list = held_pairs [] } → x ≡ asked_of (ask_from bs)
-  asked_alone e n6 n7 q f x s =
-      s ∙ ap₂ {C = Asked} (λ (r : Request) (l : List Pair). record { request = r; list = held_pairs l }) f (sym (no_list bs n6 n7)) ∙ ap asked_of (ask_fit e)
+  pub asked_fields : code_in bs ≢ 6 → code_in bs ≢ 7 → (q : Request) → q ≡ request_of (fields_of bs)
+      → (x : Asked) → x ≡ record { request = q; list = held_pairs [] } → x ≡ asked_of (fields_of bs)
+  asked_fields n6 n7 q f x s =
+      s ∙ ap₂ {C = Asked} (λ (r : Request) (l : List Pair). record { request = r; list = held_pairs l }) f (sym (no_list bs n6 n7))
 
   pub asked_unfit : fits_of bs ≡ false → (code actor : ℕ) → code ≡ code_in bs → actor ≡ actor_in bs
       → (x : Asked) → x ≡ record { request = Unknown code actor; list = held_pairs [] } → x ≡ asked_of (ask_from bs)

@@ -1,2 +1,3 @@
 -- A request from its bytes.
 pub mod Wires
+pub mod Helpers

@@ -3,15 +3,16 @@
 use mathlib.Core.Path.{◌≡◌, refl, sym, ◌∙◌, ap₂, subst}
 use mathlib.Core.List.{List, [], ◌∷◌, ◌++◌}
 use Prim.Native.Nat.{ℕ, ◌+◌, ◌*◌, ◌≤◌, ◌<◌}
+use native.Mathlib.Nat.{div-one}
 use native.Mathlib.Omega.{arith}
-use lib.ListN.{length, set, take, length-append}
+use lib.ListN.{length, get_or, set, take, length-append}
 use borrow.Author.Tests.{lt-ltb, le-ltb}
-use borrow.Rule.Slice.PartMut.{mid_of, put_mid}
-use Rattle.table.specs.Lists.{tabulate, padded}
+use Rattle.std.specs.Int.{w32, w64, to_be_bytes}
+use Rattle.table.specs.Lists.{padded}
 use Rattle.octets.specs.BigEndian.{bytes_of}
 use Rattle.requests.specs.declared.PairList.{PairList}
 use Rattle.requests.specs.declared.Request.{Request}
-use Rattle.requests.specs.Asks.{Ask, write, send, allocate, pairs_in, pairs_of, ask_of}
+use Rattle.requests.specs.Asks.{Ask, send, allocate, pairs_in, pairs_of, ask_of}
 use Rattle.wire_out.specs.declared.Written.{Written}
 use Rattle.wire_out.specs.Written.{pair_bytes, list_bytes, field_bytes, request_bytes, held_bytes, written_of}
 use Rattle.wire_out.proofs.Pairs.{length_pairs, length_held}
@@ -38,21 +39,15 @@ pub written_told : (list : PairList) {request told : Request} {w : Written} → 
     → w ≡ written_of (ask_of request list)
 written_told list {w = w} e f = subst (λ (r : Request). w ≡ written_of (ask_of r list)) (sym e) f
 
--- a number behind fields of a byte each ----------------------------------------------------
-pub word_left : (c a t w : ℕ) (l x : List ℕ) → l ≡ padded 22 0 (c ∷ a ∷ t ∷ 0 ∷ 0 ∷ []) → x ≡ bytes_of (length (mid_of 3 4 l)) w
-    → put_mid 3 4 l x ≡ padded 22 0 (c ∷ a ∷ t ∷ bytes_of 4 w)
-unfolding padded tabulate bytes_of
-word_left c a t w l x e f = rw (f, e) refl
+-- the bytes of a number -------------------------------------------------------------------
+pub word_bytes : (w : ℕ) (x : List ℕ) → x ≡ to_be_bytes w32 w → (get_or x 0 0 ∷ get_or x 1 0 ∷ get_or x 2 0 ∷ get_or x 3 0 ∷ []) ≡ bytes_of 4 w
+unfolding bytes_of
+word_bytes w x e = rw (e, div-one w) refl
 
-pub write_left : (a t w : ℕ) (l : List ℕ) → l ≡ padded 22 0 (2 ∷ a ∷ t ∷ bytes_of 4 w)
-    → ◌≡◌ {A = Written} (record { bytes = l; count = 7 }) (written_of (write a t w))
-unfolding request_bytes field_bytes bytes_of
-write_left a t w l e = written_made (write a t w) (omega arith) l 7 e refl
-
-pub part_left : (a n k p i : ℕ) (l x : List ℕ) → l ≡ padded 22 0 (7 ∷ a ∷ n ∷ k ∷ 0 ∷ []) → x ≡ bytes_of (length (mid_of 4 8 l)) p
-    → set (put_mid 4 8 l x) 12 i ≡ padded 22 0 (7 ∷ a ∷ n ∷ k ∷ (bytes_of 8 p ++ (i ∷ [])))
-unfolding padded tabulate bytes_of
-part_left a n k p i l x e f = rw (f, e) refl
+pub part_bytes : (p i : ℕ) (x : List ℕ) → x ≡ to_be_bytes w64 p
+    → (get_or x 0 0 ∷ get_or x 1 0 ∷ get_or x 2 0 ∷ get_or x 3 0 ∷ get_or x 4 0 ∷ get_or x 5 0 ∷ get_or x 6 0 ∷ get_or x 7 0 ∷ i ∷ []) ≡ bytes_of 8 p ++ (i ∷ [])
+unfolding bytes_of
+part_bytes p i x e = rw (e, div-one p) refl
 
 -- a list behind the number -----------------------------------------------------------------
 module _ (list : PairList) where

@@ -2,10 +2,10 @@
 -- a list padded with zeros, so each store makes that list longer by one. Assumes nothing.
 use mathlib.Core.Path.{◌≡◌, refl, sym, ◌∙◌, ap, ap₂}
 use mathlib.Core.List.{List, [], ◌∷◌, ◌++◌, append_assoc}
-use Prim.Native.Nat.{ℕ, ◌+◌, ◌*◌, ◌≤◌, ◌<◌}
+use Prim.Native.Nat.{ℕ, zero, suc, ◌+◌, ◌*◌, ◌≤◌, ◌<◌}
 use native.Mathlib.Numerals.{add-one}
 use native.Mathlib.Omega.{arith}
-use lib.ListN.{length, set, take, length-append}
+use lib.ListN.{length, set, take, drop, length-append}
 use lib.Seq.{get_or-take, take-set-le, length-take-le}
 use Rattle.table.specs.Lists.{tabulate, padded}
 use Rattle.table.proofs.Lists.{length_tabulate, as_tabulate, length_padded, padded_push, padded_all}
@@ -14,6 +14,13 @@ use Rattle.requests.specs.declared.PairList.{PairList}
 use Rattle.requests.specs.Asks.{pair_at, pairs_of}
 use Rattle.wire_out.specs.Written.{pair_bytes, list_bytes}
 use Rattle.wire_out.proofs.Pairs.{length_pairs, pairs_next, length_held}
+
+-- fields in front of zeros
+pub zeros_fill : (n : ℕ) (xs : List ℕ) → length xs ≤ n → xs ++ drop (length xs) (padded n 0 []) ≡ padded n 0 xs
+unfolding padded tabulate
+zeros_fill n [] h = refl
+zeros_fill zero (x ∷ xs) h = absurd (omega arith)
+zeros_fill (suc n) (x ∷ xs) h = ap (λ (l : List ℕ). x ∷ l) (zeros_fill n xs (omega arith))
 
 -- the next byte
 pub zeros_push : (xs l : List ℕ) (i a : ℕ) → length xs ≡ i → i < 22 → l ≡ padded 22 0 xs → set l i a ≡ padded 22 0 (xs ++ (a ∷ []))

@@ -11,7 +11,7 @@ use Rattle.rights.specs.Rows as Rights
 use Rattle.relation.specs.Relation.{takes_part, holds_in}
 use Rattle.relation.specs.Closure.{grow, spread, only, reached, both_take_part, holds_strong, link, influenced_set}
 use Rattle.bounds.specs.StandIn.{listed, lowest_from, stand_in, test_node, test_held, bound_of}
-use Rattle.refusals.specs.declared.Reply.TheVariants.{Done}
+use Rattle.refusals.specs.Replies.{Done}
 use Rattle.requests.specs.Asks.{Ask, write, fetch}
 use Rattle.refusals.specs.Refusals as Refusals
 use Rattle.effects.specs.Effects.{effect}

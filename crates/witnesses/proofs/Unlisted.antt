@@ -22,7 +22,7 @@ use Rattle.bounds.specs.Exactness.{WithWeak, none, kept, put, WeakEntriesFree}
 use Rattle.bounds.specs.Agreement.{AgreeOutside}
 use Rattle.bounds.proofs.Weak.{weak_entries_free}
 use Rattle.confinement.specs.Refusals.{verdict_number, bad_members, bad_entry, bad_list, all_listed, passes, bad_held, member_held, verdict_of}
-use Rattle.refusals.specs.declared.Reply.TheVariants.{Done}
+use Rattle.refusals.specs.Replies.{Done}
 use Rattle.requests.specs.Asks.{read, allocate}
 use Rattle.refusals.specs.Refusals as Refusals
 use Rattle.effects.specs.Effects.{stock_less, allocated, effect}

@@ -26,7 +26,7 @@ use Rattle.relation.specs.Closure.{grow, spread, only, reached, both_take_part, 
 use Rattle.bounds.specs.StandIn.{listed, lowest_from, stand_in, test_node, test_held, bound_of}
 use Rattle.confinement.specs.Refusals.{verdict_number, bad_members, bad_entry, bad_list, all_listed, passes, bad_held, member_held, verdict_of}
 use Rattle.bounds.specs.Agreement.{AgreeOutside}
-use Rattle.refusals.specs.declared.Reply.TheVariants.{Done}
+use Rattle.refusals.specs.Replies.{Done}
 use Rattle.requests.specs.Asks.{Ask, read, write, allocate}
 use Rattle.refusals.specs.Refusals as Refusals
 use Rattle.effects.specs.Effects.{stock_less, allocated, effect}

@@ -19,5 +19,5 @@ chain-bytes t members z bytes = by_length bytes
     (λ h e. sym (chain_refused t members (entries_in bytes) (entries_of (held_entries bytes)) z (sym (test_bytes t members bytes)) (long_refused t members (entries_in bytes) h)))
 
 pub returns : goal.returns
-returns c = ap (λ (n : ℕ). record { numbers = c.chain-shown.result.numbers; count = c.chain-shown.result.count; number = n }) c.of_chain-number.ensures
-    ∙ ap chained (c.chain-shown.ensures ∙ ap (λ (x : EntryList). chain_of c.args.table c.args.members (entries_of x) c.args.object) c.list_of-entries.ensures ∙ chain-bytes c.args.table c.args.members c.args.object c.args.list.now)
+returns c = c.from.ensures
+    ∙ ap chained (c.chain.ensures ∙ ap (λ (x : EntryList). chain_of c.args.table c.args.members (entries_of x) c.args.object) c.list_of-entries.ensures ∙ chain-bytes c.args.table c.args.members c.args.object c.args.list.now)

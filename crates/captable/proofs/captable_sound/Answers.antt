@@ -6,5 +6,5 @@ use Rattle.captable.proofs.captable_sound.Goals as goal
 pub returns-then-is_sound : goal.returns-then-is_sound
 returns-then-is_sound c = ap (λ (b : Bool). cond b 0 1) (sym c.if-is_sound.true ∙ c.is_sound.ensures)
 
-pub returns : goal.returns
-returns c = ap (λ (b : Bool). cond b 0 1) (sym c.if-is_sound.false ∙ c.is_sound.ensures)
+pub returns-else-is_sound : goal.returns-else-is_sound
+returns-else-is_sound c = ap (λ (b : Bool). cond b 0 1) (sym c.if-is_sound.false ∙ c.is_sound.ensures)

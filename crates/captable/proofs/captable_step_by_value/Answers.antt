@@ -1,6 +1,5 @@
 -- `captable::captable_step_by_value` meets its contract. Assumes nothing.
 use mathlib.Core.Path.{◌∙◌, ap}
-use Prim.Native.Nat.{ℕ}
 use Rattle.requests.specs.Asks.{ask_of}
 use Rattle.steps.specs.Steps.{step_of}
 use Rattle.wire.specs.declared.Asked.{Asked}
@@ -11,6 +10,6 @@ use Rattle.captable.proofs.captable_step_by_value.Goals as goal
 pub returns : goal.returns
 returns c = let t = c.args.table in
     let bs = c.args.request.now in
-    ap (λ (n : ℕ). record { number = n; table = c.step-done.result.table }) c.of_reply-number.ensures
-    ∙ ap stepped (c.step-done.ensures
+    c.from.ensures
+    ∙ ap stepped (c.step.ensures
     ∙ ap (λ (q : Asked). step_of t (ask_of q.request q.list)) c.request_in-asked.ensures ∙ ap (step_of t) (asked_ask bs))

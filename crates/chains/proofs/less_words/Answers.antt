@@ -1,13 +1,13 @@
--- `less_words`: the words passed are without the members, each a law of LessLoop. Assumes nothing.
+-- `less_words`: the words passed are without the members, the others as they were. Assumes nothing.
+use Prim.Native.Nat.{ℕ}
 use native.Mathlib.Omega.{arith}
-use Rattle.chains.proofs.LessLoop.{less_none, less_more, less_all}
+use lib.ListN.{get_or}
+use Rattle.std.proofs.lemmas.Grind.{common_steps}
+use Rattle.mask.specs.Sets.{less_of}
+use Rattle.table.proofs.Lists.{as_tabulate}
+use Rattle.chains.specs.Helpers.{less_words}
 use Rattle.chains.proofs.less_words.Goals as goal
 
-pub loop-x-init : goal.loop-x-init
-loop-x-init c = (omega arith, less_none c.args.words c.args.members)
-
-pub loop-x-preserved : goal.loop-x-preserved
-loop-x-preserved c = (omega arith, less_more c.args.words c.args.members _ _ _ (omega arith) c.less.ensures c.loop-x.invariant.1)
-
 pub returns : goal.returns
-returns c = less_all c.args.words c.args.members _ _ (omega arith) (omega arith) c.loop-x.invariant.1
+unfolding less_words
+returns c = as_tabulate 64 (λ (x : ℕ). less_of (get_or c.args.words x 0) c.args.members) 0 _ (grind (arith, common_steps)) (λ i l. c.loop-w.invariant.0 i (grind (arith, common_steps)))

@@ -1,13 +1,9 @@
 use mathlib.Core.Path.{◌≡◌}
-use Prim.Native.Nat.{◌≤◌, ◌-◌}
-use lib.ListN.{length}
+use Prim.Native.Nat.{ℕ, ◌<◌}
+use lib.ListN.{get_or}
 use Rattle.table.specs.Cells.{empty_slot}
-use Rattle.table.specs.Lists.{tabulate, padded}
 use Rattle.entries.specs.Entries.{entry_in}
 use Rattle.entries.proofs.entries_in.Given as goal
 
 abbrev pub invariant-loop-k : goal.invariant-loop-k
-invariant-loop-k l = (l.k ≤ l.n) × (length l.entries ≡ 8) × (l.entries ≡ padded 8 empty_slot (tabulate l.k (entry_in l.bytes)))
-
-abbrev pub decreases-loop-k : goal.decreases-loop-k
-decreases-loop-k l = l.n - l.k
+invariant-loop-k l = ((i : ℕ) → i < l.k → get_or l.entry-items i empty_slot ≡ entry_in l.bytes i)

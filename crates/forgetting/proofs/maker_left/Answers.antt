@@ -6,5 +6,5 @@ use Rattle.forgetting.proofs.maker_left.Goals as goal
 pub returns-then-maker-g : goal.returns-then-maker-g
 returns-then-maker-g c = sym (left_named _ _ c.if-maker-g.true)
 
-pub returns : goal.returns
-returns c = sym (left_other _ _ c.if-maker-g.false)
+pub returns-else-maker-g : goal.returns-else-maker-g
+returns-else-maker-g c = sym (left_other _ _ c.if-maker-g.false)

@@ -1,10 +1,7 @@
 use mathlib.Core.Path.{◌≡◌}
-use Prim.Native.Nat.{◌≤◌, ◌-◌}
-use Rattle.forgetting.proofs.Mapped.{slots_left}
+use Rattle.forgetting.specs.Forgetting.{unnamed}
+use Rattle.forgetting.proofs.Mapped.{map_first}
 use Rattle.forgetting.proofs.slots_forgotten.Given as goal
 
 abbrev pub invariant-slots : goal.invariant-slots
-invariant-slots l = (l.k ≤ 512) × (l.u ≡ slots_left l.initial.u l.g l.k)
-
-abbrev pub decreases-slots : goal.decreases-slots
-decreases-slots l = 512 - l.k
+invariant-slots l = l.c-items ≡ map_first (unnamed l.g) l.c-index l.initial.c-items

@@ -4,10 +4,10 @@ use Rattle.groups.proofs.Laid.{laid_none, laid_more, laid_all}
 use Rattle.groups.proofs.laid_out.Goals as goal
 
 pub loop-x-init : goal.loop-x-init
-loop-x-init c = (omega arith, laid_none _ _)
+loop-x-init c = laid_none _ _
 
 pub loop-x-preserved : goal.loop-x-preserved
-loop-x-preserved c = (omega arith, laid_more _ _ _ _ (omega arith) c.loop-x.invariant.1)
+loop-x-preserved c = laid_more _ _ _ _ (omega arith) c.loop-x.invariant
 
 pub returns : goal.returns
-returns c = laid_all _ _ _ _ (omega arith) c.loop-x.invariant.1
+returns c = laid_all _ _ _ _ (omega arith) c.loop-x.invariant

@@ -1,28 +1,16 @@
--- `some_lost` is the definition. The loop's invariant: no maker below n is lost. Assumes nothing.
-use mathlib.Core.Path.{◌≡◌, refl, sym, ◌∙◌, ap}
-use mathlib.Core.Bool.{Bool, ◌||◌}
-use Prim.Native.Nat.{ℕ}
-use native.Mathlib.Numerals.{add-one}
-use native.Mathlib.Omega.{arith}
-use Rattle.mask.specs.Sets.{any_below}
-use Rattle.mask.proofs.Below.{any_intro, any_last}
-use Rattle.table.specs.Cells.{maker_at}
+-- `some_lost` is the definition, object by object. Assumes nothing.
+use mathlib.Core.Path.{◌≡◌, ◌∙◌}
+use lib.ListN.{length}
+use Rattle.std.proofs.Common.{rules, tests}
+use Rattle.std.proofs.lemmas.Iterator.{YieldsList-from_slice}
+use Rattle.std.proofs.lemmas.Iterator.Search.{any_from_yields_List}
+use Rattle.table.specs.declared.Record.{Record}
 use Rattle.image.specs.Layout.{maker_lost}
-use Rattle.image_out.specs.Written.{some_lost}
+use Rattle.image_out.proofs.Left.{lost_records}
 use Rattle.image_out.proofs.some_lost.Goals as goal
 
-pub loop-n-init : goal.loop-n-init
-unfolding any_below
-loop-n-init c = (omega arith, refl)
-
-pub returns-then-maker_lost : goal.returns-then-maker_lost
-unfolding some_lost
-returns-then-maker_lost c = sym (any_intro 64 (λ k. maker_lost c.args.v (maker_at c.args.t k)) c.loop-n.n (omega arith) (sym c.maker_lost.ensures ∙ c.if-maker_lost.true))
-
-pub loop-n-preserved : goal.loop-n-preserved
-loop-n-preserved c = let p : ℕ → Bool = λ k. maker_lost c.args.v (maker_at c.args.t k) in
-    (omega arith, rw add-one (any_last c.loop-n.n p ∙ ap (λ (b : Bool). b || p c.loop-n.n) c.loop-n.invariant.1 ∙ sym c.maker_lost.ensures ∙ c.if-maker_lost.false))
-
 pub returns : goal.returns
-unfolding some_lost
-returns c = let e : c.loop-n.n ≡ 64 = omega arith in sym (rw e at c.loop-n.invariant.1)
+returns c =
+    let l : length c.args.t.records ≡ 64 = search rules in
+    any_from_yields_List (λ (r : Record). maker_lost c.args.v r.maker) _ _ _ c.any.ensures.ran (YieldsList-from_slice c.args.t.records cc) (λ x b q k. search (rules, tests))
+    ∙ lost_records c.args.v c.args.t l

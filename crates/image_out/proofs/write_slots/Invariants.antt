@@ -1,11 +1,8 @@
 use mathlib.Core.Path.{◌≡◌}
-use Prim.Native.Nat.{◌≤◌, ◌*◌, ◌-◌}
+use Prim.Native.Nat.{◌*◌}
 use lib.ListN.{length, take}
 use Rattle.image.specs.Layout.{slots_bytes}
 use Rattle.image_out.proofs.write_slots.Given as goal
 
 abbrev pub invariant-loop-j : goal.invariant-loop-j
-invariant-loop-j l = (l.j ≤ 8) × (length l.bytes ≡ 16) × (take (2 * l.j) l.bytes ≡ slots_bytes l.slots l.j)
-
-abbrev pub decreases-loop-j : goal.decreases-loop-j
-decreases-loop-j l = 8 - l.j
+invariant-loop-j l = (length l.bytes ≡ 16) × (take (2 * l.j) l.bytes ≡ slots_bytes l.slot-items l.j)

@@ -1,4 +1,4 @@
--- `report::lines::put_accepted` meets its contract: the numbers' lines join the word's line. Assumes nothing.
+-- `lines::put_accepted` meets its contract: the numbers' lines join the word's line. Assumes nothing.
 use mathlib.Core.Path.{◌∙◌}
 use mathlib.Core.List.{[], ◌∷◌, ◌++◌}
 use Rattle.lines.specs.Lines.{newline, accepted_word, number_lines, accepted_lines}

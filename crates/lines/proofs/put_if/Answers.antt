@@ -1,4 +1,4 @@
--- `report::lines::put_if` meets its contract, by the answer of `has`. Assumes nothing.
+-- `lines::put_if` meets its contract, by the answer of `has`. Assumes nothing.
 use mathlib.Core.Path.{sym, ◌∙◌}
 use Rattle.lines.proofs.Buffers.{if_in, if_out, none_put}
 use Rattle.lines.proofs.put_if.Goals as goal

@@ -1,4 +1,4 @@
--- `report::lines::put_refused` meets its contract: the number's line joins the word. Assumes nothing.
+-- `lines::put_refused` meets its contract: the number's line joins the word. Assumes nothing.
 use mathlib.Core.Path.{◌∙◌}
 use Rattle.lines.specs.Lines.{refused_word, number_line, refused_line}
 use Rattle.lines.proofs.Buffers.{begun_next}

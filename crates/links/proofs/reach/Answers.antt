@@ -1,5 +1,6 @@
 -- `reach`: the rounds that are left give what is reached and how many of them count, until one adds nothing or none is left. Assumes nothing.
-use Rattle.links.proofs.Walks.{going_none, going_more, going_still, going_end}
+use Rattle.links.proofs.Walks.{going_none, going_more, going_still, going_end, Going}
+use mathlib.Core.Path.{◌≡◌, subst}
 use native.Mathlib.Omega.{arith}
 use Rattle.links.proofs.reach.Goals as goal
 
@@ -13,4 +14,4 @@ pub loop-k-preserved : goal.loop-k-preserved
 loop-k-preserved c = going_more _ _ _ _ _ (omega arith) c.grown-next.ensures c.if-next-s.false c.loop-k.invariant
 
 pub returns : goal.returns
-returns c = going_end _ _ _ _ (omega arith) c.loop-k.invariant
+returns c = let e : c.loop-k.k ≡ 63 = omega arith in going_end _ _ _ _ (omega arith) (subst (Going _ _ _) e c.loop-k.invariant)

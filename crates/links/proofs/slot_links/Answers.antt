@@ -8,14 +8,14 @@ use Rattle.links.proofs.Loops.{slots_none, slots_more, slots_all}
 use Rattle.links.proofs.slot_links.Goals as goal
 
 pub loop-k-init : goal.loop-k-init
-loop-k-init c = (omega arith, slots_none _ _)
+loop-k-init c = (slots_none _ _)
 
 pub link_if-requires : goal.link_if-requires
 link_if-requires c = λ e. (omega arith, has_low _ _ c.ranges.among.fits (sym c.has-in-loop-k.ensures ∙ (and_true c.has.result _ e).1))
 
 pub loop-k-preserved : goal.loop-k-preserved
 loop-k-preserved c = let both = ap₂ (λ (x y : Bool). x && y) c.has.ensures c.has-in-loop-k.ensures in
-    (omega arith, slots_more _ _ _ _ _ _ c.ranges.among.fits (omega arith) c.loop-k.invariant.1 both c.link_if.ensures)
+    (slots_more _ _ _ _ _ _ c.ranges.among.fits (omega arith) c.loop-k.invariant both c.link_if.ensures)
 
 pub returns : goal.returns
-returns c = slots_all _ _ _ _ (omega arith) (omega arith) c.loop-k.invariant.1
+returns c = slots_all _ _ _ _ (omega arith) (omega arith) c.loop-k.invariant

@@ -1,10 +1,7 @@
 use mathlib.Core.Path.{◌≡◌}
-use Prim.Native.Nat.{◌*◌, ◌-◌, ◌≤◌}
+use Prim.Native.Nat.{◌*◌}
 use Rattle.relation.specs.Helpers.{pass_of}
 use Rattle.relation.proofs.pass.Given as goal
 
 abbrev pub invariant-loop-x : goal.invariant-loop-x
-invariant-loop-x l = (l.x ≤ 64) × (l.r ≡ pass_of l.initial.r (l.x * 64))
-
-abbrev pub decreases-loop-x : goal.decreases-loop-x
-decreases-loop-x l = 64 - l.x
+invariant-loop-x l = l.r ≡ pass_of l.initial.r (l.x * 64)

@@ -1,9 +1,6 @@
 use mathlib.Core.Path.{◌≡◌}
 use mathlib.Core.Bool.{true}
-use Prim.Native.Nat.{◌≤◌, ◌-◌}
 use Rattle.mask.specs.Sets.{all_below}
-use Rattle.mask.proofs.UpTo.{up_to}
-use Rattle.table.specs.Cells.{born_at}
 use Rattle.table.proofs.Scan.{taken_below, good_at}
 use Rattle.links.specs.Links.{words_of}
 use Rattle.held.specs.Helpers.{everyone}
@@ -11,20 +8,8 @@ use Rattle.held.proofs.Passed.{joins_to, over_to}
 use Rattle.scans.proofs.Scanning.{Noting}
 use Rattle.scans.proofs.scan_words.Given as goal
 
-abbrev pub invariant-born : goal.invariant-born
-invariant-born l = (l.i ≤ 64) × (l.born ≡ up_to l.i (born_at l.t))
-
-abbrev pub decreases-born : goal.decreases-born
-decreases-born l = 64 - l.i
-
 abbrev pub invariant-slots : goal.invariant-slots
 invariant-slots l = Noting l.t l.weakly l.n l.j l.h l.odd l.joins
 
-abbrev pub decreases-slots : goal.decreases-slots
-decreases-slots l = 8 - l.j
-
 abbrev pub invariant-scan : goal.invariant-scan
-invariant-scan l = (l.n ≤ 64) × (l.taken ≡ taken_below l.t l.n) × (all_below l.n (good_at l.t) ≡ true) × (l.joins ≡ words_of (joins_to l.t.slots everyone l.weakly l.n)) × (l.over ≡ words_of (over_to l.t.slots everyone l.weakly l.n))
-
-abbrev pub decreases-scan : goal.decreases-scan
-decreases-scan l = 64 - l.n
+invariant-scan l = (l.taken ≡ taken_below l.t l.n) × (all_below l.n (good_at l.t) ≡ true) × (l.joins ≡ words_of (joins_to l.t.slots everyone l.weakly l.n)) × (l.over ≡ words_of (over_to l.t.slots everyone l.weakly l.n))

@@ -10,4 +10,4 @@ pub returns-then-h-eq0 : goal.returns-then-h-eq0
 returns-then-h-eq0 c = right_none c.args.r c.args.born c.args.h c.args.odd c.if-h-odd.false (omega (arith, c.if-h-eq0.true))
 
 pub returns : goal.returns
-returns c = right_some c.args.r c.args.born c.args.h c.args.odd _ c.if-h-odd.false (λ z. omega (arith, z, c.if-h-eq0.false)) c.subset-inside.ensures
+returns c = rw c.is_alive.ensures (right_some c.args.r c.args.born c.args.h c.args.odd _ c.if-h-odd.false (λ z. omega (arith, z, c.if-h-eq0.false)) c.subset-inside.ensures)

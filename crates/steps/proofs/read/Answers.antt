@@ -1,24 +1,20 @@
--- `read` is its step: what the check of its slot saw decides, and the effect is one record, put. By the laws of a request through a slot.
--- Assumes nothing.
+-- `read` comes to its outcome: what the check of its slot saw decides, and the effect is one record, put. By the laws of a request through a
+-- slot. Assumes nothing.
 use mathlib.Core.Path.{refl}
-use borrow.Author.Tests.{not-false}
+use Rattle.std.proofs.lemmas.Result.{err_from_is_err_and}
 use Rattle.table.specs.Cells.{record_at, put_record}
-use Rattle.refusals.specs.declared.Reply.TheVariants.{Done}
+use Rattle.refusals.specs.Replies.{Done}
 use Rattle.effects.specs.Effects.{effect, with_word}
-use Rattle.steps.proofs.Ways.{through_refused, through_done}
+use Rattle.steps.proofs.Ways.{through_refused, last_done}
 use Rattle.steps.proofs.Uses.{read_uses}
 use Rattle.steps.proofs.read.Goals as goal
 
-pub returns-then-not-v : goal.returns-then-not-v
-returns-then-not-v c = through_refused (λ g. Done) c.requires read_uses c.check_slot-v.ensures c.if-not-v.true
-
-pub bounds-u-g : goal.bounds-u-g
-bounds-u-g c = c.check_slot-v.ensures.within (not-false _ c.if-not-v.false)
-
-pub bounds-u-k : goal.bounds-u-k
-bounds-u-k c = c.check_slot-v.ensures.actor (not-false _ c.if-not-v.false)
+pub returns-in_err-seen : goal.returns-in_err-seen
+returns-in_err-seen c =
+    let p = err_from_is_err_and c.from_residual.result c.from_residual.ensures.1 in
+    rw (p.1, p.2) (through_refused (λ g. Done) c.args.t.whole read_uses c.in_err-seen.ensures)
 
 pub returns : goal.returns
 unfolding effect
-returns c = through_done c.requires read_uses c.check_slot-v.ensures c.if-not-v.false
-    (λ g r. put_record c.args.t c.args.actor (with_word (record_at c.args.t c.args.actor) (record_at c.args.t g).word)) refl refl
+returns c = last_done (λ g. Done) c.args.t.whole read_uses c.in_ok-seen.ensures.opened refl
+    (λ g r. put_record c.args.t.table.now c.args.actor (with_word (record_at c.args.t.table.now c.args.actor) (record_at c.args.t.table.now g).word)) refl refl

@@ -1,21 +1,20 @@
--- `write` is its step: what the check of its slot saw decides, and the effect is one record, put. By the laws of a request through a slot.
--- Assumes nothing.
+-- `write` comes to its outcome: what the check of its slot saw decides, and the effect is one record, put. By the laws of a request through a
+-- slot. Assumes nothing.
 use mathlib.Core.Path.{refl}
-use borrow.Author.Tests.{not-false}
+use Rattle.std.proofs.lemmas.Result.{err_from_is_err_and}
 use Rattle.table.specs.Cells.{record_at, put_record}
-use Rattle.refusals.specs.declared.Reply.TheVariants.{Done}
+use Rattle.refusals.specs.Replies.{Done}
 use Rattle.effects.specs.Effects.{effect, with_word}
-use Rattle.steps.proofs.Ways.{through_refused, through_done}
+use Rattle.steps.proofs.Ways.{through_refused, last_done}
 use Rattle.steps.proofs.Uses.{write_uses}
 use Rattle.steps.proofs.write.Goals as goal
 
-pub returns-then-not-v : goal.returns-then-not-v
-returns-then-not-v c = through_refused (λ g. Done) c.requires write_uses c.check_slot-v.ensures c.if-not-v.true
-
-pub bounds-u-g : goal.bounds-u-g
-bounds-u-g c = c.check_slot-v.ensures.within (not-false _ c.if-not-v.false)
+pub returns-in_err-seen : goal.returns-in_err-seen
+returns-in_err-seen c =
+    let p = err_from_is_err_and c.from_residual.result c.from_residual.ensures.1 in
+    rw (p.1, p.2) (through_refused (λ g. Done) c.args.t.whole write_uses c.in_err-seen.ensures)
 
 pub returns : goal.returns
 unfolding effect
-returns c = through_done c.requires write_uses c.check_slot-v.ensures c.if-not-v.false
-    (λ g r. put_record c.args.t g (with_word (record_at c.args.t g) c.args.word)) refl refl
+returns c = last_done (λ g. Done) c.args.t.whole write_uses c.in_ok-seen.ensures.opened refl
+    (λ g r. put_record c.args.t.table.now g (with_word (record_at c.args.t.table.now g) c.args.word)) refl refl

@@ -1,10 +1,6 @@
 use Rattle.links.specs.Links.{word_edge}
-use Rattle.relation.proofs.Reach.{count}
 use Rattle.sweeps.proofs.Numbers.{Putting, Nearing}
 use Rattle.sweeps.proofs.put_near.Given as goal
 
-abbrev pub invariant-loop-left : goal.invariant-loop-left
-invariant-loop-left l = Putting l.set (λ x. l.word) l.initial.words l.left l.words × Nearing (word_edge l.over) l.set l.left l.found
-
-abbrev pub decreases-loop-left : goal.decreases-loop-left
-decreases-loop-left l = count 64 l.left
+abbrev pub invariant-loop-y : goal.invariant-loop-y
+invariant-loop-y l = Putting l.set (λ x. l.word) l.initial.words l.y-iterator.left l.words × Nearing (word_edge l.over) l.set l.y-iterator.left l.found

@@ -1,12 +1,8 @@
 use mathlib.Core.Path.{◌≡◌}
-use Prim.Native.Nat.{◌-◌, ◌≤◌}
 use Rattle.mask.proofs.UpTo.{up_to}
 use Rattle.links.specs.Links.{word_edge}
 use Rattle.walks.proofs.Loops.{into}
 use Rattle.walks.proofs.grown_back.Given as goal
 
 abbrev pub invariant-loop-x : goal.invariant-loop-x
-invariant-loop-x l = (l.x ≤ 64) × (l.found ≡ up_to l.x (into (word_edge l.words) l.s))
-
-abbrev pub decreases-loop-x : goal.decreases-loop-x
-decreases-loop-x l = 64 - l.x
+invariant-loop-x l = l.found ≡ up_to l.x (into (word_edge l.words) l.s)

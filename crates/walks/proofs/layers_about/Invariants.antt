@@ -1,10 +1,6 @@
-use Prim.Native.Nat.{◌-◌}
 use Rattle.links.specs.Links.{word_edge}
 use Rattle.walks.proofs.Loops.{Making}
 use Rattle.walks.proofs.layers_about.Given as goal
 
 abbrev pub invariant-loop-k : goal.invariant-loop-k
 invariant-loop-k l = Making (word_edge l.words) l.x l.z l.sets l.s l.k
-
-abbrev pub decreases-loop-k : goal.decreases-loop-k
-decreases-loop-k l = 62 - l.k

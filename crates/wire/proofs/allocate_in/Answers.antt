@@ -1,13 +1,14 @@
--- `allocate_in` meets its contract: each field is what its reader ensures. Assumes nothing.
-use Rattle.wire.proofs.Sizes.{allocate_long, allocate_count}
-use Rattle.wire.proofs.Fields.{allocate_made}
+-- `allocate_in` meets its contract: the fields stand at their places, and the list is there where the bytes fit. Assumes nothing.
+use Rattle.std.proofs.Common.{sym, ◌∙◌}
+use Rattle.wire.proofs.Parsed.{allocate_asked, allocate_short, allocate_unasked}
 use Rattle.wire.proofs.allocate_in.Goals as goal
 
-pub part_in-part-requires : goal.part_in-part-requires
-part_in-part-requires c = allocate_long c.args.bytes.now c.requires.0 c.requires.1
+pub returns-in_default : goal.returns-in_default
+returns-in_default c = allocate_short c.args.bytes.now c.requires c.in_default.len_below
 
-pub list_in-list-requires : goal.list_in-list-requires
-list_in-list-requires c = allocate_count c.args.bytes.now c.requires.0 c.requires.1
+pub returns-in_err-list : goal.returns-in_err-list
+returns-in_err-list c = c.from_residual.ensures
+    ∙ allocate_unasked c.args.bytes.now c.requires c.in-len14-up.len_at_least (sym c.list_in.ensures ∙ c.in_err-list.was)
 
 pub returns : goal.returns
-returns c = allocate_made c.args.bytes.now _ _ c.actor_in-actor.ensures c.byte_at-n.ensures c.list_in-list.result c.list_in-list.ensures c.requires.1 _ _ _ c.byte_at-kind.ensures c.part_in-part.ensures c.byte_at-i.ensures
+returns c = allocate_asked c.args.bytes.now c.requires c.in-len14-up.len_at_least _ (sym c.list_in.ensures ∙ c.in_ok-list.was) _ c.from_be_bytes.ensures

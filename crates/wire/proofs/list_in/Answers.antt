@@ -1,14 +1,13 @@
--- `wire::list_in` meets its contract: the count stands at the list's place, and the pairs after it. Assumes nothing.
-use native.Mathlib.Omega.{arith}
-use Rattle.wire.proofs.Fields.{place_read, count_read, list_made}
+-- `list_in` meets its contract, by whether the count and the bytes agree. Assumes nothing.
+use Rattle.std.proofs.Common.{arith}
+use Rattle.wire.proofs.Parsed.{list_some, list_none, made_list}
 use Rattle.wire.proofs.list_in.Goals as goal
+use Rattle.wire.proofs.list_in.Goals.{else-count-le-LONGEST-via-then-count-le-LONGEST+else-bytes-from, else-count-le-LONGEST-via-else-count-le-LONGEST}
 
-pub pairs_in-pairs-requires : goal.pairs_in-pairs-requires
-pairs_in-pairs-requires c = let bs = c.args.bytes.now in
-    let e = count_read bs _ _ c.byte_at-code.ensures c.list_place-place.ensures _ c.byte_at-count.ensures in
-    (omega arith, place_read bs _ _ c.byte_at-code.ensures c.list_place-place.ensures)
+pub returns-then-bytes-from : goal.returns-then-bytes-from
+returns-then-bytes-from c = list_some c.args.count c.args.bytes.now c.if-count-le-LONGEST.true (omega arith) _
+    (made_list c.args.count c.args.bytes.now (omega arith) _ c.pairs_in-pairs.ensures)
 
 pub returns : goal.returns
-returns c = let bs = c.args.bytes.now in
-    let e = count_read bs _ _ c.byte_at-code.ensures c.list_place-place.ensures _ c.byte_at-count.ensures in
-    list_made bs _ _ e c.pairs_in-pairs.ensures
+returns c = list_none c.args.count c.args.bytes.now
+    (λ h n. elim c.else-count-le-LONGEST.branch [ else-count-le-LONGEST-via-then-count-le-LONGEST+else-bytes-from w ↦ omega arith | else-count-le-LONGEST-via-else-count-le-LONGEST w ↦ omega arith ])

@@ -1,13 +1,14 @@
--- `send_in` meets its contract: each field is what its reader ensures, and the reply stands after the pairs. Assumes nothing.
-use Rattle.wire.proofs.Sizes.{send_long, send_count}
-use Rattle.wire.proofs.Fields.{send_made}
+-- `send_in` meets its contract: the fields stand at their places, and the list is there where the bytes fit. Assumes nothing.
+use Rattle.std.proofs.Common.{sym, ◌∙◌}
+use Rattle.wire.proofs.Parsed.{send_asked, send_short, send_unasked}
 use Rattle.wire.proofs.send_in.Goals as goal
 
-pub word_in-word-requires : goal.word_in-word-requires
-word_in-word-requires c = send_long c.args.bytes.now c.requires.0 c.requires.1
+pub returns-in_default : goal.returns-in_default
+returns-in_default c = send_short c.args.bytes.now c.requires c.in_default.len_below
 
-pub list_in-list-requires : goal.list_in-list-requires
-list_in-list-requires c = send_count c.args.bytes.now c.requires.0 c.requires.1
+pub returns-in_err-list : goal.returns-in_err-list
+returns-in_err-list c = c.from_residual.ensures
+    ∙ send_unasked c.args.bytes.now c.requires c.in-len9-up.len_at_least (sym c.list_in.ensures ∙ c.in_err-list.was)
 
 pub returns : goal.returns
-returns c = send_made c.args.bytes.now _ _ c.actor_in-actor.ensures c.byte_at-t.ensures c.list_in-list.result c.list_in-list.ensures c.requires.1 _ c.word_in-word.ensures _ c.byte_at-reply.ensures
+returns c = send_asked c.args.bytes.now c.requires c.in-len9-up.len_at_least _ (sym c.list_in.ensures ∙ c.in_ok-list.was) _ c.from_be_bytes.ensures

@@ -12,15 +12,15 @@ use Rattle.access.proofs.start.mark.Goals as goal
 use Rattle.access.proofs.start.mark.Goals.{else-rights-b-eq1, then-rights-b-eq1}
 
 pub loop-b-init : goal.loop-b-init
-loop-b-init c = (omega arith, mark_none _ _ _ _)
+loop-b-init c = mark_none _ _ _ _
 
 pub loop-b-preserved : goal.loop-b-preserved
 loop-b-preserved c = let b = c.loop-b.b in
     elim c.if-rights-b-eq1.branch [
-      | then-rights-b-eq1 w ↦ (omega arith, mark_on _ _ _ c.args.x c.args.y c.args.rights b c.loop-b.invariant.1 (bit_set c.args.rights b w.if-rights-b-eq1.true) (w.r-is ∙ ap (λ (m : ℕ). set c.loop-b.r (b * 64 + c.args.x) (bit_or (get_or c.loop-b.r (b * 64 + c.args.x) 0) m)) (one_bit c.args.y (omega arith))))
-      | else-rights-b-eq1 w ↦ (omega arith, mark_off _ _ _ c.args.x c.args.y c.args.rights b c.loop-b.invariant.1 (bit_clear c.args.rights b w.if-rights-b-eq1.false) w.r-is)
+      | then-rights-b-eq1 w ↦ mark_on _ _ _ c.args.x c.args.y c.args.rights b c.loop-b.invariant (bit_set c.args.rights b w.if-rights-b-eq1.true) (w.r-is ∙ ap (λ (m : ℕ). set c.loop-b.r (b * 64 + c.args.x) (bit_or (get_or c.loop-b.r (b * 64 + c.args.x) 0) m)) (one_bit c.args.y (omega arith)))
+      | else-rights-b-eq1 w ↦ mark_off _ _ _ c.args.x c.args.y c.args.rights b c.loop-b.invariant (bit_clear c.args.rights b w.if-rights-b-eq1.false) w.r-is
     ]
 
 pub returns : goal.returns
 returns c = let e : c.loop-b.b ≡ 4 = omega arith in
-    c.loop-b.invariant.1 ∙ ap (mark_to c.args.r.now c.args.x c.args.y c.args.rights) e
+    c.loop-b.invariant ∙ ap (mark_to c.args.r.now c.args.x c.args.y c.args.rights) e

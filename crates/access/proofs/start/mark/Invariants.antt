@@ -1,10 +1,6 @@
 use mathlib.Core.Path.{◌≡◌}
-use Prim.Native.Nat.{◌-◌, ◌≤◌}
 use Rattle.access.specs.Helpers.{mark_to}
 use Rattle.access.proofs.start.mark.Given as goal
 
 abbrev pub invariant-loop-b : goal.invariant-loop-b
-invariant-loop-b l = (l.b ≤ 4) × (l.r ≡ mark_to l.initial.r l.x l.y l.rights l.b)
-
-abbrev pub decreases-loop-b : goal.decreases-loop-b
-decreases-loop-b l = 4 - l.b
+invariant-loop-b l = l.r ≡ mark_to l.initial.r l.x l.y l.rights l.b

@@ -1,6 +1,6 @@
 use mathlib.Core.Path.{◌≡◌}
 use mathlib.Core.Bool.{false}
-use Prim.Native.Nat.{ℕ, ◌-◌, ◌≤◌, ◌<◌, ◌/◌}
+use Prim.Native.Nat.{ℕ, ◌<◌, ◌/◌}
 use lib.ListN.{get_or}
 use Rattle.table.specs.Cells.{empty_slot}
 use Rattle.bounds.specs.StandIn.{entries_of}
@@ -8,7 +8,4 @@ use Rattle.confinement.specs.Helpers.{slot_unlisted}
 use Rattle.confinement.proofs.checks.right_unlisted.Given as goal
 
 abbrev pub invariant-loop-k : goal.invariant-loop-k
-invariant-loop-k l = (l.k ≤ 512) × ((i : ℕ) → i < l.k → slot_unlisted l.members (entries_of l.l) (i / 8) (get_or l.t.slots i empty_slot) ≡ false)
-
-abbrev pub decreases-loop-k : goal.decreases-loop-k
-decreases-loop-k l = 512 - l.k
+invariant-loop-k l = (i : ℕ) → i < l.k → slot_unlisted l.members (entries_of l.l.list) (i / 8) (get_or l.fn.t.slots i empty_slot) ≡ false

@@ -1,9 +1,0 @@
--- `cases::input::entry_list` is safe and ends: the measure is the number of entries left. Assumes nothing.
-use Rattle.std.proofs.Common.{refl, arith, length-set}
-use Rattle.cases.proofs.input.entry_list.Goals as goal
-
-pub loop-k-init : goal.loop-k-init
-loop-k-init c = (omega arith, refl)
-
-pub loop-k-preserved : goal.loop-k-preserved
-loop-k-preserved c = (omega arith, simp length-set c.loop-k.invariant.1)

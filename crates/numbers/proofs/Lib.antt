@@ -1,2 +1,0 @@
--- What the look at a reply's number needs.
-pub mod Places
