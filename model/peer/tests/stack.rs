@@ -86,6 +86,8 @@ fn frame(function: &Function) -> usize {
                 assert_eq!(now, 0, "a frame is left as it was found");
                 now = most;
             }
+            // A call in the place of a return: what is left is the caller's frame.
+            ("jmp", _) if now == 0 => now = most,
             (_, None) => {}
             (other, Some(by)) => {
                 panic!("{other} {by} moves the stack pointer in a way not known here")
