@@ -89,7 +89,7 @@ slots_placed i j e = let p = or_none (no_slot i) (no_slot j) e in (slot_placed i
 
 -- a place that is none, or a field out of range
 pub check_invalid : (t : Table) (a s : ℕ) (bad : Bool) (wanted : ℕ) (need : Need) → bad_place a s bad ≡ true
-    → SlotChecked t a s bad wanted need (Err FieldInvalid)
+    → SlotChecked t a s bad wanted need (Err (record { why = FieldInvalid; seen = record { target = 0; rights = 0; kind = 0 } }))
 unfolding slot_rows slot_check_of
 check_invalid t a s bad wanted need e = record { whole = rw (e, slot_check_of) refl; opened = tt; refused = rw e refl }
 
@@ -115,7 +115,7 @@ module _ (t : Table) (a s : ℕ) (bad : Bool) (wanted : ℕ) (need : Need) (met 
       let p = placed a s bad f.placed in
       let r : slot_rows t a s bad wanted need ≡ Done = sym (first_slot_row f) ∙ e in
       record {
-        whole = rw (r, slot_check_of) refl;
+        whole = rw (f.placed, r, slot_check_of) refl;
         opened = record {
           reply = r;
           target = refl;
@@ -129,11 +129,11 @@ module _ (t : Table) (a s : ℕ) (bad : Bool) (wanted : ℕ) (need : Need) (met 
         refused = tt;
       }
 
-  pub check_failed : Found → (x : Refusal) → reply ≡ Err x → SlotChecked t a s bad wanted need (Err x)
+  pub check_failed : Found → (x : Refusal) → reply ≡ Err x → SlotChecked t a s bad wanted need (Err (record { why = x; seen = opened_at t a s }))
   unfolding slot_check_of
   check_failed f x e =
       let r : slot_rows t a s bad wanted need ≡ Err x = sym (first_slot_row f) ∙ e in
-      record { whole = rw (r, slot_check_of) refl; opened = tt; refused = r }
+      record { whole = rw (f.placed, r, slot_check_of) refl; opened = tt; refused = r }
 
 -- rows 5 and 24 passed: a born target has the wanted status
 pub status_wanted : (wanted : ℕ) (r : Record) → 1 ≤ r.status → r.status ≤ 2 → other_status wanted r ≡ false → r.status ≡ wanted

@@ -35,12 +35,27 @@ pub enum Refusal {
     TargetAlive = 24,
 }
 
-// What a request that passed rows 2 to 6 sees through its slot: the slot's capability and its target's kind.
-#[derive(Clone, Copy)]
+// What a request sees through its slot: the slot's capability and its target's kind.
+#[derive(Clone, Copy, PartialEq, Eq, Debug)]
 pub struct Opened {
     pub target: u8,
     pub rights: u8,
     pub kind: u8,
+}
+
+// Why a request was refused by rows 2 to 6, and what was seen through its slot: zeros where a field is out of range.
+#[derive(Clone, Copy, PartialEq, Eq, Debug)]
+pub struct Denied {
+    pub why: Refusal,
+    pub seen: Opened,
+}
+
+impl From<Denied> for Refusal {
+    ghost from_gives = { λ d r. r ≡ d.why };
+
+    fn from(denied: Denied) -> Refusal {
+        denied.why
+    }
 }
 
 // Is a slot of one of the pairs above 7?
@@ -101,7 +116,8 @@ pub fn first_of(
 }
 
 // Rows 2 to 6 for the actor's slot s. `bad` says whether a field besides these two is out of range, `wanted` which status the
-// target is to have.
+// target is to have. Inlined, so that a request, which wants the refusal alone, pays nothing for what was seen.
+#[inline]
 pub fn check_slot(
     t: SoundTable,
     actor: u8,
@@ -109,11 +125,18 @@ pub fn check_slot(
     bad: bool,
     wanted: u8,
     need: Need,
-) -> Result<Opened, Refusal>
+) -> Result<Opened, Denied>
     ensures { SlotChecked t.entry.table.now actor s bad wanted need result }
 {
     if (63 < actor) | (7 < s) | bad {
-        return Err(Refusal::FieldInvalid);
+        return Err(Denied {
+            why: Refusal::FieldInvalid,
+            seen: Opened {
+                target: 0,
+                rights: 0,
+                kind: 0,
+            },
+        });
     }
     let k = actor as usize;
     let a = t.table.records[k];
@@ -125,10 +148,13 @@ pub fn check_slot(
     let other = table::is_born(b) & (b.status != wanted);
     let met = need_met(need, c.rights);
     let why = wrong_status(wanted);
-    first_of(false, unfit, empty, other, Err(why), !met)?;
-    Ok(Opened {
+    let seen = Opened {
         target: c.target,
         rights: c.rights,
         kind: b.kind,
-    })
+    };
+    match first_of(false, unfit, empty, other, Err(why), !met) {
+        Ok(()) => Ok(seen),
+        Err(why) => Err(Denied { why, seen }),
+    }
 }

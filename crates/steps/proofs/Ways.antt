@@ -15,6 +15,7 @@ use Rattle.refusals.specs.declared.Refusal.TheVariants.{TableUnsound, FieldInval
 use Rattle.refusals.specs.Replies.{Reply, Done, is_done}
 use Rattle.requests.specs.declared.Request.{Request}
 use Rattle.refusals.specs.declared.Opened.{Opened}
+use Rattle.refusals.specs.declared.Denied.{Denied}
 use Rattle.steps.specs.declared.Stepped.{Stepped}
 use Rattle.requests.specs.Asks.{Ask, actor_of, ask_of}
 use Rattle.refusals.specs.Refusals.{refuse, no_object, no_slot, bad_field, unfit, target_of, rights_of, through_slot, later_rows, refusal}
@@ -44,9 +45,9 @@ module _ {t : Table} {q : Ask} {a s : ℕ} {bad : Bool} {wanted : ℕ} {need : N
   refusal_then = refusal_sound t q ok ∙ rw (uses.fields, uses.actor, uses.later) refl
 
   -- rows 2 to 6 turn it down
-  pub through_refused : {why : Refusal} → SlotChecked t a s bad wanted need (Err why) → Err why ≡ outcome_of t q
-  through_refused {why} looked =
-      outcome_refused t q why (refusal_then ∙ rows_first t a s bad wanted need _ (ap is_done looked.refused) ∙ looked.refused)
+  pub through_refused : {denied : Denied} → SlotChecked t a s bad wanted need (Err denied) → Err denied.why ≡ outcome_of t q
+  through_refused {denied} looked =
+      outcome_refused t q denied.why (refusal_then ∙ rows_first t a s bad wanted need _ (ap is_done looked.refused) ∙ looked.refused)
 
   module _ {seen : Opened} (looked : SlotOpened t a s bad wanted need seen) where
     -- they do not: the last check decides
