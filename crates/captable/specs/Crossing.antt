@@ -1,5 +1,6 @@
 -- What crosses to C and Rust: every answer by document 01's number, 0 for done, with what goes with it.
 use Rattle.std.specs.Prelude.{cond, List, ℕ, replicate, Result, Ok, Err}
+use Rattle.std.specs.Result.{result_unwrap_or}
 use Rattle.table.specs.declared.Table.{Table}
 use Rattle.table.specs.Cells.{unborn_table}
 use Rattle.table.specs.Soundness.{sound}
@@ -15,11 +16,11 @@ use Rattle.walks.specs.declared.Walked.{Walked}
 use Rattle.chains.specs.declared.ChainRefusal.{ChainRefusal}
 use Rattle.chains.specs.Answers.{chain_number, reply_in, walked_in}
 use Rattle.image.specs.declared.ReadRefusal.{ReadRefusal}
-use Rattle.image.specs.Images.{read_number}
+use Rattle.image.specs.Images.{table_loaded, number_loaded}
 use Rattle.image_out.specs.declared.WriteRefusal.{WriteRefusal}
 use Rattle.image_out.specs.Written.{write_number}
 use Rattle.take_grant.specs.declared.ImportRefusal.{ImportRefusal}
-use Rattle.take_grant.specs.Imports.{import_number}
+use Rattle.take_grant.specs.Imports.{table_after, number_after}
 use Rattle.numbers.specs.Answered.{answer_number}
 use Rattle.captable.specs.declared.Outcome.{Outcome}
 use Rattle.captable.specs.declared.Relation.{Relation}
@@ -48,14 +49,14 @@ chained r = record { numbers = (walked_in r).numbers; count = (walked_in r).coun
 
 -- what was read or brought in; on a refusal "the unborn table", document 01
 abbrev pub given : {E : Type 0} → (E → ℕ) → Result Table E → Outcome
-given of_refusal (Ok t) = record { table = t; number = 0 }
-given of_refusal (Err why) = record { table = unborn_table; number = of_refusal why }
+given of_refusal r = record { table = result_unwrap_or r unborn_table; number = answer_number of_refusal r }
 
+-- of a reading and of an import, by the table and the number that their own definitions give
 abbrev pub loaded : Result Table ReadRefusal → Outcome
-loaded = given read_number
+loaded r = record { table = table_loaded r; number = number_loaded r }
 
 abbrev pub brought_in : Result Table ImportRefusal → Outcome
-brought_in = given import_number
+brought_in r = record { table = table_after r; number = number_after r }
 
 abbrev pub written_number : Result (Unit {0}) WriteRefusal → ℕ
 written_number = answer_number write_number

@@ -13,6 +13,7 @@ use Rattle.mask.proofs.Tests.{by_cases, clash, or_left, or_right}
 use Rattle.table.specs.declared.Capability.{Capability}
 use Rattle.table.specs.declared.Table.{Table}
 use Rattle.table.specs.Cells.{record_at, status_at, is_unborn}
+use Rattle.table.specs.Lists.{tabulate}
 use Rattle.table.proofs.Lists.{padded_all}
 use Rattle.table.proofs.SoundFacts.{Sound}
 use Rattle.relation.specs.Relation.{takes_part}
@@ -21,18 +22,20 @@ use Rattle.relation.proofs.Tables.{part_low, takes_part_lem}
 use Rattle.confinement.specs.Refusals.{Verdict, Accepted, verdict_number, verdict_of}
 use Rattle.confinement.proofs.Verdicts.{accepted_is, refusal_not, verdict_split}
 use Rattle.std.specs.Prelude.{Ok, Err}
+use Rattle.std.specs.Result.{result_and, result_unwrap_or}
 use Rattle.walks.specs.declared.Walked.{Walked}
 use Rattle.walks.specs.Chains.{least_chain, walked}
 use Rattle.confinement.specs.Links.{object_link}
 use Rattle.chains.specs.declared.ChainRefusal.{ChainRefusal}
 use Rattle.chains.specs.declared.ChainRefusal.TheVariants.{TestRefused, ObjectInvalid, OutsideBound}
-use Rattle.chains.specs.Answers.{chain_refusal_number, ChainReply, Done, chain_number, bad_object, object_reply, after_test, chain_reply, shown, chain_of, walked_in}
+use Rattle.chains.specs.Answers.{chain_refusal_number, ChainReply, Done, chain_number, bad_object, object_reply, after_test, chain_reply, shown, chain_of, reply_in, walked_in}
 use Rattle.chains.specs.Exactness.{numbers_of}
 
--- the numbers of an answer
-pub numbers_shown : (cs : List ℕ) → length cs ≤ 63 → numbers_of (Ok (walked cs)) ≡ cs
-unfolding numbers_of
-numbers_shown cs h = padded_all 63 0 cs h
+-- the numbers of an answer: those of the chain, and none where the reply is a refusal
+pub numbers_shown : (reply : ChainReply) (cs : List ℕ) → length cs ≤ 63 → numbers_of (shown reply (walked cs)) ≡ result_unwrap_or (result_and reply (Ok cs)) []
+unfolding numbers_of tabulate
+numbers_shown (Ok _) cs h = padded_all 63 0 cs h
+numbers_shown (Err why) cs h = refl
 
 -- which object is turned away ------------------------------------------------------------------------
 none_of : (a b c : Bool) → a ≡ false → b ≡ false → c ≡ false → (a || b || c) ≡ false
@@ -64,6 +67,11 @@ chain_refusal_not OutsideBound = λ e. omega (arith, e)
 done_is : (r : ChainReply) → chain_number r ≡ 0 → r ≡ Done
 done_is (Ok _) e = refl
 done_is (Err why) e = absurd (chain_refusal_not why e)
+
+-- the reply of an answer is the one that it is made of
+reply_kept : (w : Walked) (r : ChainReply) → reply_in (shown r w) ≡ r
+reply_kept w (Ok _) = refl
+reply_kept w (Err why) = refl
 
 refused_walked : (w : Walked) (r : ChainReply) → eqb (chain_number r) 0 ≡ false → walked_in (shown r w) ≡ walked []
 refused_walked w (Ok _) e = absurd (false≢true (sym e))
@@ -108,6 +116,16 @@ module _ (t : Table) (members : ℕ) (list : List Capability) (z : ℕ) where
   unfolding chain_of
   done_shown e = ap (λ (r : ChainReply). shown r given) (done_is (chain_reply t members list z) e)
 
-  pub refused_shown : eqb (chain_number (chain_reply t members list z)) 0 ≡ false → walked_in (chain_of t members list z) ≡ walked []
+  pub reply_shown : reply_in (chain_of t members list z) ≡ chain_reply t members list z
   unfolding chain_of
-  refused_shown e = refused_walked given (chain_reply t members list z) e
+  reply_shown = reply_kept given (chain_reply t members list z)
+
+  -- refused: with the reply, and with no number
+  pub err_shown : (why : ChainRefusal) → chain_reply t members list z ≡ Err why → chain_of t members list z ≡ Err why
+  unfolding chain_of
+  err_shown why e = ap (λ (r : ChainReply). shown r given) e
+
+  pub refused_shown : eqb (chain_number (chain_reply t members list z)) 0 ≡ false
+      → (reply_in (chain_of t members list z) ≡ chain_reply t members list z) × (walked_in (chain_of t members list z) ≡ walked [])
+  unfolding chain_of
+  refused_shown e = (reply_shown, refused_walked given (chain_reply t members list z) e)

@@ -28,7 +28,7 @@ use Rattle.walks.proofs.Shortest.{first_alone, none_shorter, walk_first, walk_le
 use Rattle.walks.proofs.Layered.{Walks}
 use Rattle.walks.proofs.Lengths.{least_long, none_padded}
 use Rattle.confinement.specs.Links.{linked, object_link}
-use Rattle.chains.specs.Answers.{chain_number, bad_object, chain_reply, chain_of, walked_in}
+use Rattle.chains.specs.Answers.{Done, chain_number, bad_object, chain_reply, chain_of, walked_in}
 use Rattle.chains.specs.Exactness.{numbers_of, before, ChainTo, Reaches, by, Shows, LinkComputed, LinkOfTest, LinksThere, ChainShown, NoneShorter, NoneFirst, OnlyOne, ChainForBound, ShownForBound, AtMost63, NoneOnRefusal}
 use Rattle.confinement.proofs.LinkFacts.{linked_link, link_linked, linked_test}
 use Rattle.chains.proofs.Answered.{numbers_shown, fit_object, Found, done_found, found_reply, done_shown, refused_shown}
@@ -100,7 +100,7 @@ module _ (t : Table) (members : ℕ) (list : List Capability) (z : ℕ) (s : Sho
   answer = done_shown t members list z s.done
 
   shown_numbers : numbers_of (chain_of t members list z) ≡ least
-  shown_numbers = ap numbers_of answer ∙ numbers_shown least (least_long (object_link t members list) (stand_in members) z)
+  shown_numbers = ap numbers_of answer ∙ numbers_shown Done least (least_long (object_link t members list) (stand_in members) z)
 
   shown_count : (walked_in (chain_of t members list z)).count ≡ length least
   shown_count = ap (λ (r : Result Walked ChainRefusal). (walked_in r).count) answer
@@ -186,10 +186,10 @@ pub at_most_63 : AtMost63
 unfolding AtMost63
 at_most_63 t members list z = by_cases (eqb (chain_number (chain_reply t members list z)) 0)
     (λ e. omega (arith, ap (λ (r : Result Walked ChainRefusal). (walked_in r).count) (done_shown t members list z (eqb-true _ 0 e)), least_long (object_link t members list) (stand_in members) z))
-    (λ e. omega (arith, ap (λ (w : Walked). w.count) (refused_shown t members list z e)))
+    (λ e. omega (arith, ap (λ (w : Walked). w.count) (refused_shown t members list z e).1))
 
 pub none_on_refusal : NoneOnRefusal
 unfolding NoneOnRefusal
 none_on_refusal t members list z k e =
-    let r = refused_shown t members list z (ap (λ (n : ℕ). eqb n 0) e ∙ ne_eqb (suc k) 0 (λ q. absurd (omega arith))) in
+    let r = (refused_shown t members list z (ap (λ (n : ℕ). eqb n 0) e ∙ ne_eqb (suc k) 0 (λ q. absurd (omega arith)))).1 in
     (ap (λ (w : Walked). w.count) r, ap (λ (w : Walked). w.numbers) r ∙ sym none_padded)

@@ -97,7 +97,7 @@ module _ (t : Table) (members : ℕ) (list : List Capability) (a : Accepts t mem
   each z h = by_cases (eqb (chain_number (chain_reply t members list z)) 0)
       (λ e. let d = eqb-true _ 0 e in
       no_sooner z rounds h (record { table = a.table; done = d }) (ap (has z) last_bound ∙ (shown_for_bound t members list a z).1 d))
-      (λ e. omega (arith, ap (λ (w : Walked). w.count) (refused_shown t members list z e)))
+      (λ e. omega (arith, ap (λ (w : Walked). w.count) (refused_shown t members list z e).1))
 
   -- the last round that adds an object adds one with so many
   some : (k : ℕ) → rounds ≡ suc k → rounds ≤ most_links t members list
@@ -125,7 +125,7 @@ module _ (t : Table) (members : ℕ) (list : List Capability) (a : Accepts t mem
 refused_none : (t : Table) (members : ℕ) (list : List Capability) (z : ℕ) → is_accepted (verdict_of t members list) ≡ false → (walked_in (chain_of t members list z)).count ≤ 0
 refused_none t members list z q = by_cases (eqb (chain_number (chain_reply t members list z)) 0)
     (λ e. clash (eq-eqb _ 0 (done_found t members list z (eqb-true _ 0 e)).accepted) q)
-    (λ e. omega (arith, ap (λ (w : Walked). w.count) (refused_shown t members list z e)))
+    (λ e. omega (arith, ap (λ (w : Walked). w.count) (refused_shown t members list z e).1))
 
 -- the statement --------------------------------------------------------------------------------
 pub most_links_lem : MostLinks

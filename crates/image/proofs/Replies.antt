@@ -4,14 +4,15 @@ use mathlib.Core.Path.{◌≡◌, refl, sym, ◌∙◌, ap}
 use mathlib.Core.Logic.{◌≢◌}
 use mathlib.Core.Bool.{true, false, not}
 use mathlib.Core.List.{List}
-use Prim.Native.Nat.{ℕ, ◌≤◌, ◌<◌}
+use Prim.Native.Nat.{ℕ, suc, ◌≤◌, ◌<◌}
 use native.Mathlib.Omega.{arith}
 use lib.Dec.{ltb, eqb}
 use lib.ListN.{length, take}
 use borrow.Author.Tests.{ltb-true, ltb-false, lt-ltb, le-ltb, eq-eqb, ne_eqb}
-use Rattle.std.specs.Prelude.{Some, None, Ok, Err, ok_or}
+use Rattle.std.specs.Prelude.{Some, None, Result, Ok, Err, ok_or}
 use Rattle.mask.proofs.Tests.{by_cases, by_eq, or_left, or_right}
 use Rattle.table.specs.declared.Table.{Table}
+use Rattle.table.specs.Cells.{unborn_table}
 use Rattle.table.specs.Soundness.{sound}
 use Rattle.image.specs.declared.ReadRefusal.{ReadRefusal}
 use Rattle.image.specs.declared.ReadRefusal.TheVariants as R
@@ -19,7 +20,7 @@ use Rattle.image.specs.declared.Version.{Version}
 use Rattle.image.specs.declared.Version.TheVariants.{One, Two}
 use Rattle.octets.specs.BigEndian.{byte_at, number_of}
 use Rattle.image.specs.Layout.{version_byte, image_length, table_from}
-use Rattle.image.specs.Images.{version_as, wrong_length, head_refusal, read_of}
+use Rattle.image.specs.Images.{read_number, version_as, wrong_length, head_refusal, read_of, table_loaded, number_loaded}
 
 -- all that bytes are checked for, as an image of a version
 pub record Accepted (v : Version) (bytes : List ℕ) : Type 0 where
@@ -146,3 +147,19 @@ accepted v bytes t versed e = of_version (accepted_by bytes t e)
     of_version (read_by w a q) =
         let s : Some w ≡ Some v = sym (version_is w (byte_at bytes 2) a.versed) ∙ version_is v (byte_at bytes 2) versed in
         let same : w ≡ v = cc in rw (← same) a
+
+-- by the number ------------------------------------------------------------------------------------
+-- no refusal has the number 0
+pub read_not : (why : ReadRefusal) → read_number why ≢ 0
+read_not R.TableUnsound = λ e. omega (arith, e)
+read_not R.LengthWrong = λ e. omega (arith, e)
+read_not R.VersionWrong = λ e. omega (arith, e)
+
+-- so 0 is the number of what was read, with its table, and of that alone
+pub number_done : (r : Result Table ReadRefusal) → number_loaded r ≡ 0 → r ≡ Ok (table_loaded r)
+number_done (Ok t) e = refl
+number_done (Err why) e = absurd (read_not why e)
+
+pub number_refused : (r : Result Table ReadRefusal) (k : ℕ) → number_loaded r ≡ suc k → table_loaded r ≡ unborn_table
+number_refused (Ok t) k e = absurd (omega arith)
+number_refused (Err why) k e = refl

@@ -6,16 +6,15 @@ use Prim.Native.Nat.{ℕ, ◌+◌, ◌*◌, ◌/◌, ◌%◌, ◌^◌, ◌<◌}
 use native.Mathlib.Omega.{arith}
 use lib.ListN.{get_or, drop}
 use Rattle.std.specs.Prelude.{Ok, Err}
-use Rattle.std.specs.Result.{result_unwrap_or}
 use Rattle.table.specs.declared.Table.{Table}
-use Rattle.table.specs.Cells.{IsTable, empty_slot, no_record, unborn_table}
+use Rattle.table.specs.Cells.{IsTable, empty_slot, no_record}
 use Rattle.table.proofs.Lists.{length_tabulate}
 use Rattle.table.proofs.Places.{at_tabulate}
 use Rattle.table.proofs.Value.{RecordValue, SlotValue, record-value, slot_value, none_value, empty_value, values_are_table, unborn_is_table}
 use Rattle.image.specs.declared.Version.{Version}
 use Rattle.image.specs.declared.Version.TheVariants.{One, Two}
 use Rattle.image.specs.Layout.{part_of, maker_from, record_with, record_from, slot_from, table_from}
-use Rattle.image.specs.Images.{read_of}
+use Rattle.image.specs.Images.{read_of, table_loaded}
 use Rattle.octets.specs.BigEndian.{Bytes}
 use Rattle.octets.proofs.Parts.{bytes_drop, number_take}
 use Rattle.image.proofs.Places.{bytes_part}
@@ -41,8 +40,8 @@ image_is_table v bytes b = values_are_table (table_from v bytes) (length_tabulat
     (λ n. at_tabulate RecordValue no_record 64 _ n (record-typed v (part_of v bytes n) (bytes_part v bytes n b)) none_value)
     (λ k. at_tabulate SlotValue empty_slot 512 _ k (slot_typed (part_of v bytes (k / 8)) (k % 8) (bytes_part v bytes (k / 8) b)) empty_value)
 
-pub read_is_table : (bytes : List ℕ) → ((k : ℕ) → get_or bytes k 0 < 2 ^ 8) → IsTable (result_unwrap_or (read_of bytes) unborn_table)
-read_is_table bytes b = elim (read_of bytes) as (λ r. read_of bytes ≡ r → IsTable (result_unwrap_or r unborn_table)) [
+pub read_is_table : (bytes : List ℕ) → ((k : ℕ) → get_or bytes k 0 < 2 ^ 8) → IsTable (table_loaded (read_of bytes))
+read_is_table bytes b = elim (read_of bytes) as (λ r. read_of bytes ≡ r → IsTable (table_loaded r)) [
   | Err why ↦ λ e. unborn_is_table
   | Ok t ↦ λ e. of_version t (accepted_by bytes t e)
 ] refl

@@ -1,8 +1,10 @@
--- What reading returns: the table, or why there is none. In its place the calls give the unborn table, as document 01 says (`loaded` of crates/captable). Document 02, 2.7: "A slice under three bytes gets 14. A
--- version byte that is neither 1 nor 2 then gets 15, at any length. After that 14 wants the version's own length, in the slice and in the
--- length field." Then 1.
+-- What reading returns: the table, or why there is none. In its place the calls give the unborn table, as document 01 says (`table_loaded`).
+-- Document 02, 2.7: "A slice under three bytes gets 14. A version byte that is neither 1 nor 2 then gets 15, at any length. After that 14 wants
+-- the version's own length, in the slice and in the length field." Then 1.
 use Rattle.std.specs.Prelude.{Bool, true, false, not, ◌||◌, List, ℕ, ltb, eqb, length, take, Option, Some, None, Result, Ok, Err}
+use Rattle.std.specs.Result.{result_unwrap_or}
 use Rattle.table.specs.declared.Table.{Table}
+use Rattle.table.specs.Cells.{unborn_table}
 use Rattle.table.specs.Soundness.{sound}
 use Rattle.image.specs.declared.ReadRefusal.{ReadRefusal}
 use Rattle.image.specs.declared.ReadRefusal.TheVariants as R
@@ -42,3 +44,12 @@ read_of bytes =
       | Err why ↦ Err why
       | Ok v ↦ elim (sound (table_from v bytes)) [ false ↦ Err R.TableUnsound | true ↦ Ok (table_from v bytes) ]
     ]
+
+-- the table that there is after a reading, which is "the unborn table" on a refusal
+abbrev pub table_loaded : Result Table ReadRefusal → Table
+table_loaded r = result_unwrap_or r unborn_table
+
+-- and its number: 0, or that of why nothing was read
+abbrev pub number_loaded : Result Table ReadRefusal → ℕ
+number_loaded (Ok t) = 0
+number_loaded (Err why) = read_number why

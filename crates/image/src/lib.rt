@@ -3,10 +3,11 @@
 // an image is checked for.
 #![tactic(auto)]
 
-ghost use Rattle.std.specs.Prelude.{◌≡◌, ◌≤◌, length, ok_or};
+ghost use Rattle.std.specs.Prelude.{◌≡◌, ◌≤◌, length, ok_or, unwrap_or};
 ghost use Rattle.table.specs.Lists.{tabulate};
 ghost use Rattle.image.specs.Layout.{head as head_of, record_length, image_length, slot_from, maker_from, stored_with, stored_from, table_from};
 ghost use Rattle.image.specs.declared.ReadRefusal.TheVariants.{VersionWrong};
+ghost use Rattle.image.specs.declared.Version.TheVariants.{One};
 ghost use Rattle.image.specs.Images.{version_as, head_refusal, read_of};
 
 use table::{Capability, Record, Table};
@@ -45,6 +46,13 @@ impl TryFrom<u8> for Version {
             _ => Err(ReadRefusal::VersionWrong),
         }
     }
+}
+
+// The same with no refusal: Two for the byte 2, and One for every other byte.
+pub fn version_in(byte: u8) -> Version
+    ensures { result ≡ unwrap_or (version_as byte) One }
+{
+    Version::try_from(byte).unwrap_or(Version::One)
 }
 
 // An object with its eight slots, as one record of the image.

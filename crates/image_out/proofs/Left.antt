@@ -1,8 +1,10 @@
 -- Writing by cases: from what a check found to the reply, and from the reply to what is left in the buffer. Assumes nothing.
 use mathlib.Core.Path.{◌≡◌, refl, sym, ◌∙◌, ap}
 use mathlib.Core.Bool.{Bool, true, false, ◌||◌}
+use mathlib.Core.Logic.{◌≢◌}
 use mathlib.Core.List.{List, [], ◌∷◌}
 use Prim.Native.Nat.{ℕ, ◌≤◌, ◌<◌}
+use native.Mathlib.Omega.{arith}
 use lib.ListN.{length, get_or}
 use Rattle.std.specs.Prelude.{Ok, Err}
 use borrow.Author.Tests.{lt-ltb, le-ltb}
@@ -17,7 +19,7 @@ use Rattle.image_out.specs.declared.WriteRefusal.{WriteRefusal}
 use Rattle.image_out.specs.declared.WriteRefusal.TheVariants as W
 use Rattle.image.specs.declared.Version.{Version}
 use Rattle.image.specs.Layout.{image_length, maker_lost}
-use Rattle.image_out.specs.Written.{some_lost, write_refusal, filled_by, written_of}
+use Rattle.image_out.specs.Written.{write_number, some_lost, write_refusal, filled_by, written_of}
 
 -- a test of the elements of a list is one of its places
 any_places : {A : Type 0} (p : A → Bool) (d : A) (xs : List A) → list_any p xs ≡ any_below (length xs) (λ n. p (get_or xs n d))
@@ -30,6 +32,12 @@ unfolding some_lost
 lost_records v t l =
     let p = λ (r : Record). maker_lost v r.maker in
     any_places p no_record t.records ∙ ap (λ (m : ℕ). any_below m (λ n. p (get_or t.records n no_record))) l
+
+-- no refusal has the number 0, which is that of what was written
+pub write_not : (why : WriteRefusal) → write_number why ≢ 0
+write_not W.TableUnsound = λ e. omega (arith, e)
+write_not W.BufferShort = λ e. omega (arith, e)
+write_not W.MakerRecorded = λ e. omega (arith, e)
 
 module _ (v : Version) (t : Table) (buffer : List ℕ) where
   pub write_unsound : sound t ≡ false → write_refusal v t buffer ≡ Err W.TableUnsound

@@ -23,15 +23,15 @@ use Rattle.table.specs.Soundness.{sound}
 use Rattle.image.specs.declared.Version.{Version}
 use Rattle.image.specs.declared.Version.TheVariants.{One, Two}
 use Rattle.image.specs.Layout.{record_length, image_length, stored_at, stored_bytes, records_bytes, image_of, maker_lost, part_of, record_with, record_from, slot_from, stored_with, stored_from, table_from}
-use Rattle.image.specs.Images.{read_of}
+use Rattle.image.specs.Images.{read_of, number_loaded}
 use Rattle.image_out.specs.Written.{some_lost, filled_by, written_of}
-use Rattle.image_out.specs.Exactness.{IsRead, Unmade, TwoReadsBack, OneReadsBack, WritesBack, MovesUp, MovesBack, StoredAs, stored_as, ReadsExactly, DecidesBytes}
+use Rattle.image_out.specs.Exactness.{IsRead, ReadByNumber, Unmade, TwoReadsBack, OneReadsBack, WritesBack, MovesUp, MovesBack, StoredAs, stored_as, ReadsExactly, DecidesBytes}
 use Rattle.octets.specs.BigEndian.{Bytes}
 use Rattle.table.proofs.Lists.{length_tabulate, get_d_tabulate}
 use Rattle.table.proofs.Cells.{tables_same}
 use Rattle.octets.proofs.Lists.{tabulate_is}
 use Rattle.image.proofs.Load.{slot_place}
-use Rattle.image.proofs.Replies.{Accepted, accepted, ReadBy, read_by, accepted_by, read_done}
+use Rattle.image.proofs.Replies.{Accepted, accepted, ReadBy, read_by, accepted_by, read_done, number_done}
 use Rattle.image.proofs.Typed.{image_is_table}
 use Rattle.image_out.proofs.Left.{write_done, written_done}
 use Rattle.octets.proofs.Parts.{beside}
@@ -140,6 +140,13 @@ module _ (v : Version) (bytes : List ℕ) (t : Table) (r : IsRead v bytes t) whe
   image_of_read = ap (image_of v) table_is ∙ image_is v bytes r.bits was
 
 -- the claims --------------------------------------------------------------------------------
+pub read_by_number : ReadByNumber
+unfolding ReadByNumber
+read_by_number v bytes b versed = (
+  λ e. record { bits = b; versed = versed; done = number_done (read_of bytes) e },
+  λ r. ap number_loaded r.done,
+)
+
 pub two_reads_back : TwoReadsBack
 unfolding TwoReadsBack
 two_reads_back t z e buffer h = reads_back Two t z (none_lost_two t) e buffer h

@@ -8,7 +8,7 @@ use Rattle.octets.specs.BigEndian.{Bytes, byte_at}
 use Rattle.image.specs.declared.Version.{Version}
 use Rattle.image.specs.declared.Version.TheVariants.{One, Two}
 use Rattle.image.specs.Layout.{version_byte, image_length, image_of}
-use Rattle.image.specs.Images.{read_of}
+use Rattle.image.specs.Images.{read_of, table_loaded, number_loaded}
 use Rattle.image_out.specs.Written.{some_lost, written_of}
 
 -- bytes that are read as an image of the version, and the table that they give
@@ -16,6 +16,11 @@ pub record IsRead (v : Version) (bytes : List ℕ) (t : Table) : Type 0 where
   pub bits : Bytes bytes
   pub versed : byte_at bytes 2 ≡ version_byte v
   pub done : read_of bytes ≡ Ok t
+
+-- which a caller sees by the number 0, with that table
+unfoldable pub ReadByNumber : Type 0
+ReadByNumber = (v : Version) (bytes : List ℕ) → Bytes bytes → byte_at bytes 2 ≡ version_byte v
+    → (number_loaded (read_of bytes) ≡ 0) ↔ IsRead v bytes (table_loaded (read_of bytes))
 
 -- "64 throughout"
 abbrev pub Unmade : Table → Type 0

@@ -111,6 +111,8 @@ fn some_lost(t: Table, v: Version) -> bool
 
 // Writes a table's image of a version: 1 for a table that is not sound, 23 for a maker that the version has no place for, 16 for a buffer
 // that is too short. A refusal leaves every byte of the buffer; success fills the version's length and touches no byte after it.
+// Inlined, so that the table is not copied once more on the way.
+#[inline(always)]
 pub fn write(t: Table, buffer: &mut [u8], v: Version) -> Result<(), WriteRefusal>
     ensures reply { result ≡ write_refusal v t buffer.old }
     ensures left { buffer.new ≡ written_of v t buffer.old }

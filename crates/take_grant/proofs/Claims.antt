@@ -1,26 +1,27 @@
 -- The claims of 2.2, statement by statement of specs/Exactness.antt. In plain words: the import accepts exactly the bytes that the layout has, and
 -- gives back the table of their entities; whatever bytes come, the table is sound, without stocks, with alive active objects alone; each entity has
 -- its number and each capability its slot; and entities that Store links join influence each other. Assumes nothing.
-use mathlib.Core.Path.{◌≡◌, refl, ◌∙◌, ap}
-use mathlib.Core.Bool.{true, false}
+use mathlib.Core.Path.{◌≡◌, refl, sym, ◌∙◌, ap}
+use mathlib.Core.Bool.{true}
 use mathlib.Core.List.{List, []}
 use Prim.Native.Nat.{ℕ, ◌<◌}
-use Rattle.std.specs.Prelude.{Ok, Err}
+use Rattle.std.specs.Prelude.{◌↔◌, Ok, Err}
 use Rattle.std.specs.Result.{is_ok, IsOk}
-use Rattle.mask.proofs.Tests.{clash}
 use lib.ListN.{length, drop}
 use Rattle.table.specs.declared.Capability.{Capability}
 use Rattle.table.specs.declared.Table.{Table}
-use Rattle.table.specs.Cells.{no_maker, maker_at, IsTable, record_at, slot_at, is_alive, is_active, is_born}
+use Rattle.table.specs.Cells.{no_maker, maker_at, unborn_table, IsTable, record_at, slot_at, is_alive, is_active, is_born}
 use Rattle.table.specs.Soundness.{sound}
+use Rattle.octets.specs.BigEndian.{Bytes}
 use Rattle.take_grant.specs.declared.ImportRefusal.{ImportRefusal}
 use Rattle.take_grant.specs.Entities.{Entity, cap_at}
 use Rattle.take_grant.specs.Layout.{IsTakeGrant, table}
 use Rattle.take_grant.specs.Walk.{found, stopped, walk_of}
-use Rattle.take_grant.specs.Imports.{slot_for, table_of, imported, import_of, table_after}
+use Rattle.take_grant.specs.Imports.{slot_for, table_of, imported, import_of, table_after, number_after}
 use Rattle.take_grant.specs.Stores.{Joined}
 use Rattle.take_grant.specs.Exactness.{LaidOut, of_entities, WalkExact, AcceptsExactly, GivesBack, OneReading, UnbornOnRefusal, AlwaysSound, AlwaysTable, NoStock, NobodyMade, AliveActive, Numbered, InPlace, RightByRight, EachOther, StoreJoins, StoreConnects, SharingJoins}
 use Rattle.take_grant.proofs.Finds.{by_found}
+use Rattle.take_grant.proofs.Refusals.{walk_refuses, zero_ok, ok_zero, refused_unborn}
 use Rattle.take_grant.proofs.Rights.{rows_of_lem}
 use Rattle.take_grant.proofs.Tables.{table_none}
 use Rattle.take_grant.proofs.Grammar.{walked, walk_laid, laid_walk}
@@ -53,12 +54,20 @@ unfolding AcceptsExactly
 accepts_exactly bytes b = (
   λ n. by_found (walk_of bytes)
       (λ es rest e. of_entities es (walk_laid bytes es rest b e))
-      (λ why e. let z : is_ok (import_of bytes) ≡ false = ap is_ok (import_stopped bytes why e) in clash n z),
+      (λ why e. absurd (walk_refuses bytes why e (sym (ap number_after (import_stopped bytes why e)) ∙ n))),
   λ l. accepted l,
 )
   where
-    accepted : LaidOut bytes → IsOk (import_of bytes)
-    accepted (of_entities es g) = ap is_ok (import_laid es bytes g)
+    accepted : LaidOut bytes → number_after (import_of bytes) ≡ 0
+    accepted (of_entities es g) = ap number_after (import_laid es bytes g)
+
+-- the same by what is returned, which is a table exactly where the number is 0
+pub accepts_ok : (bytes : List ℕ) → Bytes bytes → IsOk (import_of bytes) ↔ LaidOut bytes
+unfolding AcceptsExactly
+accepts_ok bytes b = (
+  λ k. (accepts_exactly bytes b).0 (ok_zero (import_of bytes) k),
+  λ l. ap is_ok (zero_ok (import_of bytes) ((accepts_exactly bytes b).1 l)),
+)
 
 pub one_reading : OneReading
 unfolding OneReading
@@ -67,7 +76,11 @@ one_reading es ds bytes g h = let p = laid_walk es bytes g in let q = laid_walk 
 -- what comes in, accepted or not ----------------------------------------------------------------
 pub unborn_on_refusal : UnbornOnRefusal
 unfolding UnbornOnRefusal
-unborn_on_refusal bytes why e = ap table_after e
+unborn_on_refusal bytes k = refused_unborn (import_of bytes) k
+
+-- the same by the refusal
+pub unborn_for : (bytes : List ℕ) (why : ImportRefusal) → import_of bytes ≡ Err why → table_after (import_of bytes) ≡ unborn_table
+unborn_for bytes why e = ap table_after e
 
 -- a fact of the table of every legal entities is one of every import: on a refusal there is none of them
 always : (P : Table → Type 0) → ((es : List Entity) → Legal es → P (table_of es)) → (bytes : List ℕ) → P (table_after (import_of bytes))

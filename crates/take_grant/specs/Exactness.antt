@@ -1,16 +1,14 @@
 -- What document 02, 2.2 claims of the import, as statements; proofs/Claims.antt proves them. `es` are the entities that the bytes are.
-use Rattle.std.specs.Prelude.{◌≡◌, ◌↔◌, true, false, ◌||◌, List, [], ℕ, ◌<◌, length, Ok, Err}
-use Rattle.std.specs.Result.{IsOk}
+use Rattle.std.specs.Prelude.{◌≡◌, ◌↔◌, true, false, ◌||◌, List, [], ℕ, suc, ◌<◌, length, Ok}
 use Rattle.table.specs.declared.Table.{Table}
 use Rattle.table.specs.Cells.{IsTable, no_maker, unborn_table, record_at, slot_at, maker_at, stock_at, born_at, is_alive, is_active, has_rd, has_wr, has_wk, has_tx}
 use Rattle.table.specs.Soundness.{sound}
 use Rattle.relation.specs.Relation.{Influences, table_holding}
 use Rattle.octets.specs.BigEndian.{Bytes}
-use Rattle.take_grant.specs.declared.ImportRefusal.{ImportRefusal}
 use Rattle.take_grant.specs.Entities.{Entity, Read, Write, Grant, Store, includes, mapped, cap_at}
 use Rattle.take_grant.specs.Layout.{IsTakeGrant}
 use Rattle.take_grant.specs.Walk.{found, walk_of}
-use Rattle.take_grant.specs.Imports.{record_for, slot_for, table_of, import_of, table_after}
+use Rattle.take_grant.specs.Imports.{record_for, slot_for, table_of, import_of, table_after, number_after}
 use Rattle.take_grant.specs.Stores.{StoreConnected, SharesCaps, Joined}
 
 -- the walk and the grammar ------------------------------------------------------------
@@ -24,7 +22,7 @@ WalkExact = (bytes : List ℕ) → Bytes bytes → (es : List Entity) → (walk_
 
 -- so the import accepts exactly the bytes of the grammar
 unfoldable pub AcceptsExactly : Type 0
-AcceptsExactly = (bytes : List ℕ) → Bytes bytes → IsOk (import_of bytes) ↔ LaidOut bytes
+AcceptsExactly = (bytes : List ℕ) → Bytes bytes → (number_after (import_of bytes) ≡ 0) ↔ LaidOut bytes
 
 -- and gives back the table of their entities
 unfoldable pub GivesBack : Type 0
@@ -37,7 +35,7 @@ OneReading = (es ds : List Entity) (bytes : List ℕ) → IsTakeGrant es bytes �
 -- what comes in, accepted or not -------------------------------------------------------
 -- "elsewhere it brings back ... the wholly unborn table", document 01
 unfoldable pub UnbornOnRefusal : Type 0
-UnbornOnRefusal = (bytes : List ℕ) (why : ImportRefusal) → import_of bytes ≡ Err why → table_after (import_of bytes) ≡ unborn_table
+UnbornOnRefusal = (bytes : List ℕ) (k : ℕ) → number_after (import_of bytes) ≡ suc k → table_after (import_of bytes) ≡ unborn_table
 
 -- a sound table; that it can then be tested, stepped and stored is `ImportUsable` of crates/runs
 unfoldable pub AlwaysSound : Type 0

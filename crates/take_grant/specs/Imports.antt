@@ -46,3 +46,8 @@ import_of bytes = imported (walk_of bytes)
 -- the table that there is after an import, which is the wholly unborn one on a refusal
 abbrev pub table_after : Result Table ImportRefusal → Table
 table_after r = result_unwrap_or r unborn_table
+
+-- and its number: 0, or that of why nothing was brought in
+abbrev pub number_after : Result Table ImportRefusal → ℕ
+number_after (Ok t) = 0
+number_after (Err why) = import_number why
