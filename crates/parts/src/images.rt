@@ -3,6 +3,7 @@
 ghost use Rattle.std.specs.Prelude.{◌≡◌, length};
 
 use crate::source;
+use captable::Outcome;
 use cases::digest;
 use cases::input::Input;
 use image::Version;
@@ -17,12 +18,12 @@ fn untouched() -> [u8; 4096]
     [0xA5; 4096]
 }
 
-// Reads an image, prints the number and the table, and gives the table: on a refusal the unborn one.
+// Reads an image, prints the number and the table as they cross to a caller of the library, and gives the table: on a refusal the unborn one.
 fn read<R: Read, W: Write>(from: &mut R, out: &mut W, length: u16) -> io::Result<Table> {
-    let loaded = source::image(from, length, image::read)?;
-    let number = number_of(&loaded);
-    let t = loaded.unwrap_or(table::unborn_table());
-    write!(out, " {number} {:08x}", digest::of_table(t))?;
+    let loaded = Outcome::from(source::image(from, length, image::read)?);
+    let number = loaded.number;
+    let t = loaded.table;
+    write!(out, "{number} {:08x} ", digest::of_table(t))?;
     Ok(t)
 }
 
@@ -31,19 +32,20 @@ fn write_as<W: Write>(out: &mut W, t: Table, length: u16, v: Version) -> io::Res
     let mut space = untouched();
     let n = usize::from(length).min(4096);
     let number = number_of(&image_out::write(t, &mut space[..n], v));
-    write!(out, " {number} {:08x}", digest::of_bytes(&space))
+    write!(out, "{number} {:08x}", digest::of_bytes(&space))
 }
 
 // The same as version 2, and then in the older form, which ends the line.
 fn write<W: Write>(out: &mut W, t: Table, length: u16) -> io::Result<()> {
     write_as(out, t, length, Version::Two)?;
+    write!(out, " ")?;
     write_as(out, t, length, Version::One)?;
     writeln!(out)
 }
 
 fn line<R: Read, W: Write>(from: &mut R, out: &mut W, number: u64, head: &[u8]) -> io::Result<()> {
     let mut lengths = Input::new(head);
-    write!(out, "{number}")?;
+    write!(out, "{number} ")?;
     let t = read(from, out, lengths.short())?;
     write(out, t, lengths.short())
 }
@@ -57,7 +59,7 @@ pub fn all<R: Read, W: Write>(from: &mut R, out: &mut W) -> io::Result<u64> {
 fn raw_line<W: Write>(out: &mut W, number: u64, bytes: &[u8]) -> io::Result<()> {
     let mut case = Input::new(bytes);
     let t = case.table();
-    write!(out, "{number}")?;
+    write!(out, "{number} ")?;
     write(out, t, case.short())
 }
 

@@ -1,17 +1,18 @@
-// Potential access, by the rules or by groups, as `find` finds it. A case is the 1,984 bytes of a table.
+// Potential access, by the rules or by groups, as `find` finds it and as it crosses to a caller of the library. A case is the 1,984 bytes of a table.
 use crate::source;
 use access::AccessRefusal;
+use captable::Relation;
 use cases::digest;
 use cases::input::Input;
-use numbers::number_of;
 use std::io::{self, Read, Write};
 use table::Table;
 
 type Answer = Result<[u64; 256], AccessRefusal>;
 
 fn line<W: Write>(out: &mut W, number: u64, found: Answer) -> io::Result<()> {
-    let reply = number_of(&found);
-    let rows = found.unwrap_or([0; 256]);
+    let relation = Relation::from(found);
+    let reply = relation.number;
+    let rows = relation.rows;
     writeln!(out, "{number} {reply} {:08x}", digest::of_words(&rows))
 }
 

@@ -1,8 +1,8 @@
-// Chains shown. A case is that of a confinement test, and the object.
+// Chains shown, as they cross to a caller of the library. A case is that of a confinement test, and the object.
 use crate::source;
+use captable::ShownChain;
 use cases::digest;
 use cases::input::Input;
-use numbers::number_of;
 use std::io::{self, Read, Write};
 
 fn line<W: Write>(out: &mut W, number: u64, bytes: &[u8]) -> io::Result<()> {
@@ -10,15 +10,10 @@ fn line<W: Write>(out: &mut W, number: u64, bytes: &[u8]) -> io::Result<()> {
     let t = case.table();
     let members = case.set();
     let list = case.entry_list();
-    let shown = chains::chain(t, members, list, case.byte());
-    let reply = number_of(&shown);
-    let (numbers, count) = match shown {
-        Ok(chain) => {
-            let numbers = chain.numbers;
-            (numbers, chain.count)
-        }
-        Err(_) => ([0; 63], 0),
-    };
+    let shown = ShownChain::from(chains::chain(t, members, list, case.byte()));
+    let reply = shown.number;
+    let count = shown.count;
+    let numbers = shown.numbers;
     write!(out, "{number} {reply} {count} ")?;
     for n in numbers.iter().take(usize::from(count)) {
         write!(out, "{n} ")?;

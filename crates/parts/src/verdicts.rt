@@ -1,21 +1,20 @@
-// Confinement tests, by rounds or by groups, as `test` makes them. A case is the 1,984 bytes of a table, the members (8 bytes), and a list:
-// a count and eight entries.
+// Confinement tests, by rounds or by groups, as `test` makes them and as they cross to a caller of the library. A case is the 1,984 bytes of
+// a table, the members (8 bytes), and a list: a count and eight entries.
 use crate::source;
 use bounds::{EntryList, Grown};
+use captable::Finding;
 use cases::input::Input;
 use confinement::TestRefusal;
-use numbers::number_of;
 use std::io::{self, Read, Write};
 use table::Table;
 
 type Tested = Result<Grown, TestRefusal>;
 
 fn line<W: Write>(out: &mut W, number: u64, tested: Tested) -> io::Result<()> {
-    let verdict = number_of(&tested);
-    let Grown { bound, rounds } = tested.unwrap_or(Grown {
-        bound: 0,
-        rounds: 0,
-    });
+    let found = Finding::from(tested);
+    let verdict = found.number;
+    let rounds = found.rounds;
+    let bound = found.bound;
     writeln!(out, "{number} {verdict} {rounds} {bound:016x}")
 }
 
