@@ -18,7 +18,7 @@ use Rattle.table.specs.declared.Table.{Table}
 use Rattle.table.proofs.SoundFacts.{Sound}
 use Rattle.relation.specs.Relation.{Holding}
 use Rattle.relation.specs.Closure.{link, reached}
-use Rattle.relation.proofs.Reach.{count}
+use Rattle.relation.specs.Helpers.{count}
 use Rattle.links.specs.Links.{capability_link}
 use Rattle.links.specs.Rounds.{there_after, rounds_from}
 use Rattle.links.specs.Helpers.{spread_of}

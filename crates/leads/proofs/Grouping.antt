@@ -12,7 +12,7 @@ use Rattle.mask.proofs.Bits.{has_zero, bits_ext}
 use Rattle.table.proofs.Lists.{as_tabulate}
 use Rattle.relation.specs.Closure.{grow, spread, only, most_rounds, reached}
 use Rattle.relation.proofs.Reach.{Path, stay, step, join, has_grow, grow_lt, has_only, only_lt, reached_path, path_reached}
-use Rattle.relation.proofs.Reach.{count}
+use Rattle.relation.specs.Helpers.{count}
 use Rattle.sweeps.specs.Helpers.{Lowest, near_of, PutEach}
 use Rattle.links.specs.Links.{word_edge}
 use Rattle.links.specs.Helpers.{spread_of}

@@ -10,7 +10,8 @@ use Rattle.mask.proofs.Tests.{by_cases, clash, and_true, and_intro, or_cases, or
 use Rattle.mask.proofs.Bits.{has_zero, has_union, has_less, bits_lt}
 use Rattle.table.proofs.Lists.{as_tabulate}
 use Rattle.relation.specs.Closure.{reached}
-use Rattle.relation.proofs.Reach.{count, count_lt}
+use Rattle.relation.specs.Helpers.{count}
+use Rattle.relation.proofs.Reach.{count_lt}
 use Rattle.links.specs.Links.{word_edge}
 use Rattle.leads.specs.Helpers.{EndsThere, led_words, Leading, Settled}
 use Rattle.leads.proofs.Reaching.{word_low, reach_edge, reach_keeps, as_reached}

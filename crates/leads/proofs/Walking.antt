@@ -12,7 +12,8 @@ use Rattle.mask.proofs.Tests.{by_cases, by_eq, clash, and_true, and_intro, or_ca
 use Rattle.mask.proofs.Below.{any_intro, any_elim}
 use Rattle.mask.proofs.Bits.{has_zero, has_common, bits_lt}
 use Rattle.relation.specs.Closure.{reached}
-use Rattle.relation.proofs.Reach.{count, count_lt, count_high}
+use Rattle.relation.specs.Helpers.{count}
+use Rattle.relation.proofs.Reach.{count_lt, count_high}
 use Rattle.links.specs.Links.{word_edge}
 use Rattle.sweeps.specs.Helpers.{Lowest, PutEach}
 use Rattle.sweeps.proofs.Numbers.{lowest_is}

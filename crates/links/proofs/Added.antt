@@ -13,7 +13,8 @@ use Rattle.mask.proofs.Tests.{by_cases, by_eq, clash, bool_ext, and_true, and_in
 use Rattle.mask.proofs.Below.{any_intro, any_elim}
 use Rattle.mask.proofs.Bits.{has_bits, bits_lt, bits_ext, has_zero}
 use Rattle.relation.specs.Closure.{grow, spread, only, most_rounds, reached}
-use Rattle.relation.proofs.Reach.{count, count_more, count_without, has_grow, grow_lt, has_only, only_lt}
+use Rattle.relation.specs.Helpers.{count}
+use Rattle.relation.proofs.Reach.{count_more, count_without, has_grow, grow_lt, has_only, only_lt}
 use Rattle.links.specs.Rounds.{there_after, adding_from, rounds_from}
 use Rattle.links.specs.Helpers.{spread_of}
 

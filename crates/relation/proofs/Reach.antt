@@ -12,6 +12,7 @@ use Rattle.mask.proofs.Tests.{by_cases, by_eq, clash, and_true, and_intro, or_ca
 use Rattle.mask.proofs.Below.{any_intro, any_elim}
 use Rattle.mask.proofs.Bits.{has_bits, bits_lt, bits_ext}
 use Rattle.relation.specs.Closure.{grow, spread, only, most_rounds, reached}
+use Rattle.relation.specs.Helpers.{count}
 
 -- a path of edges
 pub data Path (edge : ℕ → ℕ → Bool) : ℕ → ℕ → Type 0 where
@@ -34,11 +35,7 @@ path_into edge other x f (step {y = u} {z = v} p e) = by_eq v x
     (λ q. subst⁻¹ (λ (w : ℕ). Path other x w) q stay)
     (λ q. step (path_into edge other x f p) (f u v q e))
 
--- how many numbers below n a set has ------------------------------------------
-unfoldable pub count : ℕ → ℕ → ℕ
-count zero s = 0
-count (suc n) s = count n s + bit_of (has n s)
-
+-- how many numbers a set has --------------------------------------------------
 pub count_high : (n s : ℕ) → count n s ≤ n
 unfolding count
 count_high zero s = omega arith

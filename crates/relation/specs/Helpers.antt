@@ -1,9 +1,10 @@
 -- The relation as the code holds it: 256 words, of which the word at 64 times the right's place plus x has the numbers over which
 -- x has the right. Each rule of Relation.antt is a feed: where one word has y, another is joined into a third. What the code's
 -- functions promise of such words is said here; that the saturated words are the closure is proofs/Saturation.antt.
+-- Last, how many numbers a set has, which is how often a sweep through it goes on.
 use Rattle.std.specs.Prelude.{◌≡◌, true, false, List, [], ◌∷◌, ℕ, zero, suc, ◌+◌, ◌*◌, ◌/◌, ◌%◌, ◌^◌, ◌<◌, length, get_or, set}
 use Rattle.std.specs.Int.Bits.{bit_or}
-use Rattle.mask.specs.Sets.{has}
+use Rattle.mask.specs.Sets.{has, bit_of}
 use Rattle.relation.specs.Relation.{Right, rd, wr, wk, tx, bit_at, Holding, Can}
 
 abbrev pub place : Right → ℕ → ℕ
@@ -97,3 +98,8 @@ pub record Saturated (s r : List ℕ) : Type 0 where
   pub kept : Kept s r
   pub derived : (h : Holding) → Derived h s → Derived h r
   pub closed : (i : ℕ) → i < 4096 → AddsNothing r (rules (i / 64) (i % 64))
+
+-- how many numbers below n a set has ------------------------------------------
+unfoldable pub count : ℕ → ℕ → ℕ
+count zero s = 0
+count (suc n) s = count n s + bit_of (has n s)

@@ -16,7 +16,8 @@ use Rattle.mask.proofs.Tests.{by_eq, clash, bool_ext, and_true, and_intro, or_ca
 use Rattle.mask.proofs.Below.{any_intro, any_elim}
 use Rattle.mask.proofs.Lowest.{tz_there, tz_first}
 use Rattle.mask.proofs.Bits.{has_suc, has_zero, has_excluding, has_union, bits_lt, bits_same, as_bits}
-use Rattle.relation.proofs.Reach.{count, count_lt}
+use Rattle.relation.specs.Helpers.{count}
+use Rattle.relation.proofs.Reach.{count_lt}
 use Rattle.sweeps.specs.Helpers.{Lowest, near_of, PutEach, NotedEach}
 
 -- the lowest number -----------------------------------------------------------------

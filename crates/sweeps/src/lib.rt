@@ -5,7 +5,7 @@
 ghost use Rattle.std.specs.Prelude.{◌≡◌, ℕ, ◌<◌, length};
 ghost use Rattle.std.specs.Iterator.{at_most};
 ghost use Rattle.mask.specs.Sets.{excluding};
-ghost use Rattle.relation.proofs.Reach.{count};
+ghost use Rattle.relation.specs.Helpers.{count};
 ghost use Rattle.links.specs.Links.{word_edge};
 ghost use Rattle.links.specs.Helpers.{spread_of};
 ghost use Rattle.sweeps.specs.Helpers.{Lowest, TakesLowest, near_of, PutEach, NotedEach};

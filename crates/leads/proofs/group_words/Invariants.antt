@@ -1,5 +1,5 @@
 use Rattle.links.specs.Links.{word_edge}
-use Rattle.relation.proofs.Reach.{count}
+use Rattle.relation.specs.Helpers.{count}
 use Rattle.leads.specs.Helpers.{Joining}
 use Rattle.leads.proofs.Grouping.{Grouping}
 use Rattle.leads.proofs.group_words.Given as goal

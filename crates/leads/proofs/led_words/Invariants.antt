@@ -1,7 +1,7 @@
 use mathlib.Core.Path.{◌≡◌}
 use lib.ListN.{length}
 use Rattle.mask.specs.Sets.{less_of}
-use Rattle.relation.proofs.Reach.{count}
+use Rattle.relation.specs.Helpers.{count}
 use Rattle.leads.specs.Helpers.{Settled}
 use Rattle.leads.proofs.led_words.Given as goal
 
