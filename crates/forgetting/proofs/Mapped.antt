@@ -31,6 +31,12 @@ module _ {A : Type 0} (f : A → A) where
   pub mapped_more : (k : ℕ) (l u : List A) (d a : A) → k < length l → u ≡ map_first f k l → a ≡ f (get_or u k d) → set u k a ≡ map_first f (k + 1) l
   mapped_more k l u d a h e g = ap (set u k) g ∙ ap (λ (x : List A). set x k (f (get_or x k d))) e ∙ one_more k l d h ∙ rw (add-one k) refl
 
+  pub mapped_length : (k : ℕ) (l : List A) → length (map_first f k l) ≡ length l
+  unfolding map_first
+  mapped_length zero l = refl
+  mapped_length (suc k) [] = refl
+  mapped_length (suc k) (x ∷ xs) = ap suc (mapped_length k xs)
+
   pub mapped_all : (k : ℕ) (l : List A) → length l ≡ k → map_first f k l ≡ map f l
   unfolding map_first
   mapped_all zero [] h = refl
